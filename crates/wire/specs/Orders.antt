@@ -1,0 +1,107 @@
+-- What an order's bytes are, and where a list of bytes ceases to be one. Assumes nothing: these are definitions.
+use mathlib.Core.Path.{_≡_}
+use mathlib.Core.Bool.{Bool, true, false, cond, _&&_}
+use mathlib.Core.List.{List, [], _∷_, _++_}
+use Prim.Native.Nat.{ℕ, suc, min, _^_, _≤_, _<_}
+use lib.Dec.{eqb, ltb}
+use lib.ListN.{length, getD, take}
+use Rattle.std.specs.declared.option.Option.{Option}
+use Rattle.std.specs.declared.option.Option.the-variants.{Some, None}
+use Rattle.wire.specs.Bytes.{four, number-of, part}
+use Rattle.wire.specs.declared.order.Numbers.{Numbers}
+use Rattle.wire.specs.declared.order.Order.{Order}
+use Rattle.wire.specs.declared.order.Order.the-variants.{Place, Next, At, Sizes, Whole}
+
+module _ {T : Type 0} where
+  -- what is known of the tuning
+  abbrev pub tuning-of : Order T → T
+  tuning-of (Place t k) = t
+  tuning-of (Next t k) = t
+  tuning-of (At t p) = t
+  tuning-of (Sizes t) = t
+  tuning-of (Whole t m) = t
+
+  abbrev pub kind : Order T → ℕ
+  kind (Place t k) = 0
+  kind (Next t k) = 1
+  kind (At t p) = 2
+  kind (Sizes t) = 3
+  kind (Whole t m) = 4
+
+  -- an order's own number
+  abbrev pub own : Order T → ℕ
+  own (Place t k) = k
+  own (Next t k) = k
+  own (At t p) = p
+  own (Sizes t) = 0
+  own (Whole t m) = m
+
+module _ {T U : Type 0} where
+  -- the same question of another tuning
+  abbrev pub asked-of : Order T → U → Order U
+  asked-of (Place _ k) u = Place u k
+  asked-of (Next _ k) u = Next u k
+  asked-of (At _ p) u = At u p
+  asked-of (Sizes _) u = Sizes u
+  asked-of (Whole _ m) u = Whole u m
+
+-- an order's 17 bytes: its kind, the three numbers of the tuning, and its own
+abbrev pub order-bytes : Order Numbers → List ℕ
+order-bytes o = kind o ∷ (four (tuning-of o .octave) ++ (four (tuning-of o .interval) ++ (four (tuning-of o .notes) ++ four (own o))))
+
+-- an order whose numbers fit four bytes
+abbrev pub Fits-order : Order Numbers → Type 0
+Fits-order o = (tuning-of o .octave < 2 ^ 32) × (tuning-of o .interval < 2 ^ 32) × (tuning-of o .notes < 2 ^ 32) × (own o < 2 ^ 32)
+
+-- two orders have different bytes
+abbrev pub Orders-apart : Type 0
+Orders-apart = (o p : Order Numbers) → Fits-order o → Fits-order p → order-bytes o ≡ order-bytes p → o ≡ p
+
+-- the order of a kind, if there is one: the own number of sizes is 0
+abbrev pub order-of : ℕ → Numbers → ℕ → Option (Order Numbers)
+order-of k t x =
+    cond (eqb k 0) (Some (Place t x))
+    (cond (eqb k 1) (Some (Next t x))
+    (cond (eqb k 2) (Some (At t x))
+    (cond (eqb k 3 && eqb x 0) (Some (Sizes t))
+    (cond (eqb k 4) (Some (Whole t x)) None))))
+
+-- the numbers of a tuning in a list of bytes
+abbrev pub tuning-at : List ℕ → Numbers
+tuning-at bs = record { octave = number-of (part 1 4 bs); interval = number-of (part 5 4 bs); notes = number-of (part 9 4 bs) }
+
+-- the order that a list of bytes is, if it is one
+abbrev pub read-order : List ℕ → Option (Order Numbers)
+read-order bs = cond (eqb (length bs) 17) (order-of (getD bs 0 0) (tuning-at bs) (number-of (part 13 4 bs))) None
+
+-- what reading bytes answers
+pub record Order-read (bs : List ℕ) (r : Option (Order Numbers)) : Type 0 where
+  pub value : r ≡ read-order bs
+  -- the bytes of an order are read as that order
+  pub back : (o : Order Numbers) → Fits-order o → bs ≡ order-bytes o → r ≡ Some o
+  -- and no others are
+  pub only : (o : Order Numbers) → r ≡ Some o → bs ≡ order-bytes o
+
+-- the first place of an own number whose byte is not 0, or the place past it
+abbrev pub own-misfit : List ℕ → ℕ
+own-misfit bs =
+    cond (ltb 0 (getD bs 13 0)) 13
+    (cond (ltb 0 (getD bs 14 0)) 14
+    (cond (ltb 0 (getD bs 15 0)) 15
+    (cond (ltb 0 (getD bs 16 0)) 16 17)))
+
+-- the place of the first byte that doesn't fit: the kind if it is above 4, the end of too few bytes, the byte past 17, and the own number of sizes
+-- where it is not 0; the least of these
+abbrev pub misfit : List ℕ → ℕ
+misfit bs = min (min (length bs) 17) (min (cond (ltb 4 (getD bs 0 0)) 0 17) (cond (eqb (getD bs 0 0) 3) (own-misfit bs) 17))
+
+-- where bytes cease to be an order's: some order begins with those before this place, and none with one more
+pub record Ceases (bs : List ℕ) (p : ℕ) : Type 0 where
+  pub within : p ≤ length bs
+  pub before : (o : Order Numbers) × Fits-order o × (take p (order-bytes o) ≡ take p bs)
+  pub past : (o : Order Numbers) → take (suc p) (order-bytes o) ≡ take (suc p) bs → ⊥
+
+-- where reading stops
+pub record Order-misfit (bs : List ℕ) (r : ℕ) : Type 0 where
+  pub value : r ≡ misfit bs
+  pub ceases : read-order bs ≡ None → Ceases bs r
