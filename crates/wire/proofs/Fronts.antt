@@ -28,3 +28,7 @@ module _ (xs ys out : List ℕ) {was : List ℕ} (front : was ≡ over xs out) w
   then-rest new =
       let none : drop (length was - length xs) (drop (length xs) was) ≡ [] = drop-all (length was - length xs) (drop (length xs) was) (omega (arith, length-drop (length xs) was)) in
       rw (none, kept, new, take-rest, left, append-nil, drop-drop, length-append, append-assoc)
+
+-- a slice of as many bytes holds them and nothing else
+pub all-of : (xs out : List ℕ) {was : List ℕ} → was ≡ over xs out → length out ≡ length xs → was ≡ xs
+all-of xs out front full = front ∙ ap (λ rest. xs ++ rest) (drop-all (length xs) out (omega arith)) ∙ append-nil xs

@@ -13,9 +13,10 @@ use Rattle.wire.specs.declared.order.Numbers.{Numbers}
 use Rattle.wire.specs.declared.order.Order.{Order}
 use Rattle.wire.specs.declared.order.Order.the-variants.{Place, Next, At, Sizes, Whole}
 use Rattle.wire.specs.Bytes.{number-of, part}
-use Rattle.wire.specs.Orders.{order-bytes, order-of, kind, tuning-at, read-order, own-misfit, misfit, Fits-order, Order-misfit}
-use Rattle.wire.proofs.Numbers.{four-from, number-from, number-fits, take-padded}
-use Rattle.wire.proofs.OrderLaws.{order-of-parts, order-padded}
+use Rattle.wire.specs.Laws.{Bytes, Fits-order, Orders-cease}
+use Rattle.wire.specs.Orders.{kind, misfit, numbers-of, order-bytes, order-of, own-misfit, read-order}
+use Rattle.wire.proofs.Numbers.{four-from, number-from, take-padded}
+use Rattle.wire.proofs.OrderLaws.{order-stands, stands-bytes, stands-fits}
 
 -- every kind up to 4 has an order, the one of sizes if its own number is 0
 order-there : (k x : ℕ) (t : Numbers) → k ≤ 4 → (k ≡ 3 → x ≡ 0) → (o : Order Numbers) × (order-of k t x ≡ Some o)
@@ -65,15 +66,13 @@ module _ (bs : List ℕ) where
       let none : (getD bs 13 0 ≡ 0) × (getD bs 14 0 ≡ 0) × (getD bs 15 0 ≡ 0) × (getD bs 16 0 ≡ 0) = grind (arith, tells) in
       number-from bs 13 ∙ omega arith
 
-module _ (bs cs : List ℕ) (small : (i : ℕ) → getD cs i 0 < 256) where
+module _ (bs cs : List ℕ) (small : Bytes cs) where
   -- the order whose numbers stand in cs begins as bs does, as far as cs does
   begins : (p : ℕ) → p ≤ 17 → p ≤ length bs → ((i : ℕ) → i < p → getD cs i 0 ≡ getD bs i 0) → getD cs 0 0 ≤ 4 → (getD cs 0 0 ≡ 3 → number-of (part 13 4 cs) ≡ 0) → (o : Order Numbers) × Fits-order o × (take p (order-bytes o) ≡ take p bs)
   begins p few within same low own =
-      let there = order-there (getD cs 0 0) (number-of (part 13 4 cs)) (tuning-at cs) low own in
-      let o = there .0 in
-      let parts = order-of-parts (getD cs 0 0) (number-of (part 13 4 cs)) (tuning-at cs) o (there .1) in
-      let fits : Fits-order o = rw (parts .1, parts .2) (number-fits cs small 1, number-fits cs small 5, number-fits cs small 9, number-fits cs small 13) in
-      (o, fits, ap (take p) (order-padded cs small o (there .1)) ∙ take-padded bs cs 17 p few within same)
+      let there = order-there (getD cs 0 0) (number-of (part 13 4 cs)) (numbers-of (part 1 12 cs)) low own in
+      let stands = order-stands cs (there .0) (there .1) in
+      (there .0, stands-fits cs small stands, ap (take p) (stands-bytes cs small stands) ∙ take-padded bs cs 17 p few within same)
 
 -- the first 13 bytes, and no own number
 module _ (bs : List ℕ) where
@@ -83,16 +82,16 @@ module _ (bs : List ℕ) where
   same-front : (i : ℕ) → i < 13 → getD (take 13 bs) i 0 ≡ getD bs i 0
   same-front i h = getD-take 13 bs i 0 h
 
-module _ (bs : List ℕ) (small : (i : ℕ) → getD bs i 0 < 256) where
+module _ (bs : List ℕ) (small : Bytes bs) where
   abbrev Begun : ℕ → Type 0
   Begun p = (o : Order Numbers) × Fits-order o × (take p (order-bytes o) ≡ take p bs)
 
   sizes-begun : getD bs 0 0 ≡ 3 → Begun (misfit bs)
   sizes-begun three =
-      begins bs (take 13 bs) fits (misfit bs) (bounds bs .1) (bounds bs .0) same (omega (arith, same-front bs 0 (omega arith))) (λ _. number-from (take 13 bs) 13 ∙ none)
+      begins bs (take 13 bs) bytes (misfit bs) (bounds bs .1) (bounds bs .0) same (omega (arith, same-front bs 0 (omega arith))) (λ _. number-from (take 13 bs) 13 ∙ none)
     where
-      fits : (i : ℕ) → getD (take 13 bs) i 0 < 256
-      fits i = ⊎-elim (λ h. omega (arith, same-front bs i h, small i)) (λ h. omega (arith, without-own bs i h)) (cases-lt i 13)
+      bytes : Bytes (take 13 bs)
+      bytes i = ⊎-elim (λ h. omega (arith, same-front bs i h, small i)) (λ h. omega (arith, without-own bs i h)) (cases-lt i 13)
 
       same : (i : ℕ) → i < misfit bs → getD (take 13 bs) i 0 ≡ getD bs i 0
       same i h = ⊎-elim (λ low. same-front bs i low) (λ high. without-own bs i high ∙ sym (zeros bs i high (omega (arith, bounds bs .3 three)))) (cases-lt i 13)
@@ -123,8 +122,8 @@ module _ (bs : List ℕ) (small : (i : ℕ) → getD bs i 0 < 256) where
     whole-past full none =
         let long : length bs ≡ 17 = omega (arith, same-length, bounds bs .0) in
         let low : getD bs 0 0 ≤ 4 = omega (arith, kind-small o, same-kind) in
-        let there = order-there (getD bs 0 0) (number-of (part 13 4 bs)) (tuning-at bs) low (λ three. own-none bs (omega (arith, bounds bs .3 three, own-few bs))) in
-        let not : order-of (getD bs 0 0) (tuning-at bs) (number-of (part 13 4 bs)) ≡ None = rw long at none in
+        let there = order-there (getD bs 0 0) (number-of (part 13 4 bs)) (numbers-of (part 1 12 bs)) low (λ three. own-none bs (omega (arith, bounds bs .3 three, own-few bs))) in
+        let not : order-of (getD bs 0 0) (numbers-of (part 1 12 bs)) (number-of (part 13 4 bs)) ≡ None = rw long at none in
         let absurd-pair : _≡_ {A = ℕ} 0 1 = cc (there .1, not) in
         omega arith
 
@@ -138,8 +137,5 @@ module _ (bs : List ℕ) (small : (i : ℕ) → getD bs i 0 < 256) where
   past : read-order bs ≡ None → (o : Order Numbers) → take (suc (misfit bs)) (order-bytes o) ≡ take (suc (misfit bs)) bs → ⊥
   past none o same = ⊎-elim (λ h. short-past o same h) (λ h. whole-past o same (omega (arith, bounds bs .1)) none) (cases-lt (misfit bs) 17)
 
-  pub order-misfit : {r : ℕ} → r ≡ misfit bs → Order-misfit bs r
-  order-misfit value = record {
-    value = value;
-    ceases = λ none. rw value (record { within = bounds bs .0; before = before; past = past none });
-  }
+pub orders-cease : Orders-cease
+orders-cease bs small none = record { within = bounds bs .0; before = before bs small; past = past bs small none }

@@ -4,9 +4,10 @@ use mathlib.Core.List.{List, [], _∷_, _++_}
 use Prim.Native.Nat.{ℕ, zero, suc, _+_, _*_, _/_, _%_, _^_, _≤_, _<_}
 use native.Mathlib.Nat.{add-zero, div-div-eq-div-mul, mod-eq-of-lt, not-suc-le-zero, zero-add}
 use native.Mathlib.Omega.{arith}
-use lib.ListN.{length, getD, take}
-use Rattle.std.proofs.shelf.Lists.{ext-getD, getD-drop, getD-take, length-take-le}
+use lib.ListN.{length, getD, take, drop}
+use Rattle.std.proofs.shelf.Lists.{drop-drop, drop-take, ext-getD, getD-drop, getD-take, length-take-le, take-take}
 use Rattle.wire.specs.Bytes.{four, number-of, part}
+use Rattle.wire.specs.Laws.{Bytes}
 
 pub number-of-four : (n : ℕ) → n < 2 ^ 32 → number-of (four n) ≡ n
 number-of-four n h =
@@ -31,7 +32,10 @@ module _ (a b c d : ℕ) (ha : a < 256) (hb : b < 256) (hc : c < 256) (hd : d < 
   four-number-of : four (number-of (a ∷ b ∷ c ∷ d ∷ [])) ≡ a ∷ b ∷ c ∷ d ∷ []
   four-number-of = cc (first, second, third, fourth)
 
--- a byte of a part
+-- four bytes of a part
+pub part-in : (bs : List ℕ) (i j m : ℕ) → 4 ≤ m → part j 4 (part i (j + m) bs) ≡ part (i + j) 4 bs
+part-in bs i j m h = ap (take 4) (drop-take j m (drop i bs)) ∙ take-take 4 m (drop j (drop i bs)) h ∙ ap (take 4) (drop-drop j i bs)
+
 part-at : (bs : List ℕ) (i j : ℕ) → j < 4 → getD (part i 4 bs) j 0 ≡ getD bs (i + j) 0
 part-at bs i j h = rw (getD-take, getD-drop)
 
@@ -43,14 +47,15 @@ four-from i bs = getD bs i 0 ∷ getD bs (i + 1) 0 ∷ getD bs (i + 2) 0 ∷ get
 pub number-from : (bs : List ℕ) (i : ℕ) → number-of (part i 4 bs) ≡ number-of (four-from i bs)
 number-from bs i = rw (part-at bs i 0 (omega arith), part-at bs i 1 (omega arith), part-at bs i 2 (omega arith), part-at bs i 3 (omega arith), add-zero)
 
-module _ (bs : List ℕ) (small : (i : ℕ) → getD bs i 0 < 256) where
-  pub four-at : (i : ℕ) → four (number-of (part i 4 bs)) ≡ four-from i bs
-  four-at i =
-      ap four (number-from bs i)
-      ∙ four-number-of (getD bs i 0) (getD bs (i + 1) 0) (getD bs (i + 2) 0) (getD bs (i + 3) 0) (small i) (small (i + 1)) (small (i + 2)) (small (i + 3))
+module _ (bs : List ℕ) (small : Bytes bs) where
+  pub number-fits : (i : ℕ) {n : ℕ} → n ≡ number-of (part i 4 bs) → n < 2 ^ 32
+  number-fits i e = rw (e, number-from bs i) (omega (arith, small i, small (i + 1), small (i + 2), small (i + 3)))
 
-  pub number-fits : (i : ℕ) → number-of (part i 4 bs) < 2 ^ 32
-  number-fits i = rw (number-from bs i) (omega (arith, small i, small (i + 1), small (i + 2), small (i + 3)))
+  -- a number that stands at a place has the bytes that stand there
+  pub number-at : (i : ℕ) {n : ℕ} → n ≡ number-of (part i 4 bs) → four n ≡ four-from i bs
+  number-at i e =
+      ap four (e ∙ number-from bs i)
+      ∙ four-number-of (getD bs i 0) (getD bs (i + 1) 0) (getD bs (i + 2) 0) (getD bs (i + 3) 0) (small i) (small (i + 1)) (small (i + 2)) (small (i + 3))
 
 -- n bytes from a place on, 0 for those that are missing
 abbrev pub padded : ℕ → ℕ → List ℕ → List ℕ

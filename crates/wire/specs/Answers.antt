@@ -1,8 +1,7 @@
--- What an answer's bytes are. Assumes nothing: these are definitions.
-use mathlib.Core.Path.{_≡_}
+-- What an answer's bytes are, and which answer bytes are. Assumes nothing: these are definitions.
 use mathlib.Core.Bool.{cond, _&&_}
 use mathlib.Core.List.{List, [], _∷_, _++_}
-use Prim.Native.Nat.{ℕ, _^_, _<_}
+use Prim.Native.Nat.{ℕ}
 use lib.Dec.{eqb}
 use lib.ListN.{length, getD, drop}
 use Rattle.std.specs.declared.option.Option.{Option}
@@ -11,6 +10,7 @@ use Rattle.std.specs.Options.{mapped}
 use Rattle.wire.specs.Bytes.{four, number-of, part}
 use Rattle.wire.specs.declared.answer.Refusal.{Refusal}
 use Rattle.wire.specs.declared.answer.Refusal.the-variants.{Unreadable, OutOfRange, NoRoom, NotAllDifferent, NotThere}
+use Rattle.wire.specs.declared.answer.Refused.{Refused as RefusedAt}
 use Rattle.wire.specs.declared.answer.Pair.{Pair}
 use Rattle.wire.specs.declared.answer.Pairs.{Pairs}
 use Rattle.wire.specs.declared.answer.Pairs.the-variants.{Zero, One, Two, Three}
@@ -45,26 +45,6 @@ answer-bytes (Number n) = 1 ∷ four n
 answer-bytes (Numbers p) = 2 ∷ pair-bytes p
 answer-bytes (Listed ps) = 3 ∷ (four (count ps) ++ pairs-bytes ps)
 
-abbrev pub Fits-pair : Pair → Type 0
-Fits-pair p = (p .first < 2 ^ 32) × (p .second < 2 ^ 32)
-
-abbrev pub Fits-pairs : Pairs → Type 0
-Fits-pairs Zero = Unit {0}
-Fits-pairs (One p) = Fits-pair p
-Fits-pairs (Two p q) = Fits-pair p × Fits-pair q
-Fits-pairs (Three p q r) = Fits-pair p × Fits-pair q × Fits-pair r
-
--- an answer whose numbers fit four bytes
-abbrev pub Fits-answer : Answer → Type 0
-Fits-answer (Refused r) = r .place < 2 ^ 32
-Fits-answer (Number n) = n < 2 ^ 32
-Fits-answer (Numbers p) = Fits-pair p
-Fits-answer (Listed ps) = Fits-pairs ps
-
--- two answers have different bytes
-abbrev pub Answers-apart : Type 0
-Answers-apart = (a b : Answer) → Fits-answer a → Fits-answer b → answer-bytes a ≡ answer-bytes b → a ≡ b
-
 abbrev pub refusal-of : ℕ → Option Refusal
 refusal-of n =
     cond (eqb n 1) (Some Unreadable)
@@ -77,28 +57,32 @@ refusal-of n =
 abbrev pub pair-of : List ℕ → Pair
 pair-of bs = record { first = number-of (part 0 4 bs); second = number-of (part 4 4 bs) }
 
+-- the refusal and its place after a kind
+abbrev pub read-refused : List ℕ → Option RefusedAt
+read-refused bs = mapped (λ r. record { refusal = r; place = number-of (part 5 4 bs) }) (refusal-of (number-of (part 1 4 bs)))
+
+-- so many of three pairs, in an answer of so many bytes
+abbrev pub pairs-of : ℕ → ℕ → Pair → Pair → Pair → Option Pairs
+pairs-of c n p q r =
+    cond (eqb c 0 && eqb n 5) (Some Zero)
+    (cond (eqb c 1 && eqb n 13) (Some (One p))
+    (cond (eqb c 2 && eqb n 21) (Some (Two p q))
+    (cond (eqb c 3 && eqb n 29) (Some (Three p q r)) None)))
+
 abbrev pub read-pairs : List ℕ → Option Pairs
-read-pairs bs =
-    cond (eqb (number-of (part 1 4 bs)) 0 && eqb (length bs) 5) (Some Zero)
-    (cond (eqb (number-of (part 1 4 bs)) 1 && eqb (length bs) 13) (Some (One (pair-of (part 5 8 bs))))
-    (cond (eqb (number-of (part 1 4 bs)) 2 && eqb (length bs) 21) (Some (Two (pair-of (part 5 8 bs)) (pair-of (part 13 8 bs))))
-    (cond (eqb (number-of (part 1 4 bs)) 3 && eqb (length bs) 29) (Some (Three (pair-of (part 5 8 bs)) (pair-of (part 13 8 bs)) (pair-of (part 21 8 bs)))) None)))
+read-pairs bs = pairs-of (number-of (part 1 4 bs)) (length bs) (pair-of (part 5 8 bs)) (pair-of (part 13 8 bs)) (pair-of (part 21 8 bs))
+
+-- the answer of a kind, with so many bytes, by what stands after the kind
+abbrev pub answer-of : ℕ → ℕ → Option RefusedAt → ℕ → Pair → Option Pairs → Option Answer
+answer-of k n r x p ps =
+    cond (eqb k 0 && eqb n 9) (mapped Refused r)
+    (cond (eqb k 1 && eqb n 5) (Some (Number x))
+    (cond (eqb k 2 && eqb n 9) (Some (Numbers p))
+    (cond (eqb k 3) (mapped Listed ps) None)))
 
 -- the answer that a list of bytes is, if it is one
 abbrev pub read-answer : List ℕ → Option Answer
-read-answer bs =
-    cond (eqb (getD bs 0 0) 0 && eqb (length bs) 9) (mapped (λ r. Refused (record { refusal = r; place = number-of (part 5 4 bs) })) (refusal-of (number-of (part 1 4 bs))))
-    (cond (eqb (getD bs 0 0) 1 && eqb (length bs) 5) (Some (Number (number-of (part 1 4 bs))))
-    (cond (eqb (getD bs 0 0) 2 && eqb (length bs) 9) (Some (Numbers (pair-of (part 1 8 bs))))
-    (cond (eqb (getD bs 0 0) 3) (mapped Listed (read-pairs bs)) None)))
-
--- what reading bytes answers
-pub record Answer-read (bs : List ℕ) (r : Option Answer) : Type 0 where
-  pub value : r ≡ read-answer bs
-  -- the bytes of an answer are read as that answer
-  pub back : (a : Answer) → Fits-answer a → bs ≡ answer-bytes a → r ≡ Some a
-  -- and no others are
-  pub only : (a : Answer) → r ≡ Some a → bs ≡ answer-bytes a
+read-answer bs = answer-of (getD bs 0 0) (length bs) (read-refused bs) (number-of (part 1 4 bs)) (pair-of (part 1 8 bs)) (read-pairs bs)
 
 -- some bytes over the front of others
 abbrev pub over : List ℕ → List ℕ → List ℕ

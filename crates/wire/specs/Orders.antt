@@ -1,10 +1,9 @@
--- What an order's bytes are, and where a list of bytes ceases to be one. Assumes nothing: these are definitions.
-use mathlib.Core.Path.{_≡_}
-use mathlib.Core.Bool.{Bool, true, false, cond, _&&_}
-use mathlib.Core.List.{List, [], _∷_, _++_}
-use Prim.Native.Nat.{ℕ, suc, min, _^_, _≤_, _<_}
+-- What an order's bytes are, which order bytes are, and where they cease to be one. Assumes nothing: these are definitions.
+use mathlib.Core.Bool.{cond, _&&_}
+use mathlib.Core.List.{List, _∷_, _++_}
+use Prim.Native.Nat.{ℕ, min}
 use lib.Dec.{eqb, ltb}
-use lib.ListN.{length, getD, take}
+use lib.ListN.{length, getD}
 use Rattle.std.specs.declared.option.Option.{Option}
 use Rattle.std.specs.declared.option.Option.the-variants.{Some, None}
 use Rattle.wire.specs.Bytes.{four, number-of, part}
@@ -45,17 +44,13 @@ module _ {T U : Type 0} where
   asked-of (Sizes _) u = Sizes u
   asked-of (Whole _ m) u = Whole u m
 
--- an order's 17 bytes: its kind, the three numbers of the tuning, and its own
+-- the 12 bytes of a tuning's numbers
+abbrev pub numbers-bytes : Numbers → List ℕ
+numbers-bytes t = four (t .octave) ++ (four (t .interval) ++ four (t .notes))
+
+-- an order's 17 bytes: its kind, the numbers of its tuning, and its own
 abbrev pub order-bytes : Order Numbers → List ℕ
-order-bytes o = kind o ∷ (four (tuning-of o .octave) ++ (four (tuning-of o .interval) ++ (four (tuning-of o .notes) ++ four (own o))))
-
--- an order whose numbers fit four bytes
-abbrev pub Fits-order : Order Numbers → Type 0
-Fits-order o = (tuning-of o .octave < 2 ^ 32) × (tuning-of o .interval < 2 ^ 32) × (tuning-of o .notes < 2 ^ 32) × (own o < 2 ^ 32)
-
--- two orders have different bytes
-abbrev pub Orders-apart : Type 0
-Orders-apart = (o p : Order Numbers) → Fits-order o → Fits-order p → order-bytes o ≡ order-bytes p → o ≡ p
+order-bytes o = kind o ∷ (numbers-bytes (tuning-of o) ++ four (own o))
 
 -- the order of a kind, if there is one: the own number of sizes is 0
 abbrev pub order-of : ℕ → Numbers → ℕ → Option (Order Numbers)
@@ -66,21 +61,13 @@ order-of k t x =
     (cond (eqb k 3 && eqb x 0) (Some (Sizes t))
     (cond (eqb k 4) (Some (Whole t x)) None))))
 
--- the numbers of a tuning in a list of bytes
-abbrev pub tuning-at : List ℕ → Numbers
-tuning-at bs = record { octave = number-of (part 1 4 bs); interval = number-of (part 5 4 bs); notes = number-of (part 9 4 bs) }
+-- the numbers that 12 bytes are
+abbrev pub numbers-of : List ℕ → Numbers
+numbers-of bs = record { octave = number-of (part 0 4 bs); interval = number-of (part 4 4 bs); notes = number-of (part 8 4 bs) }
 
 -- the order that a list of bytes is, if it is one
 abbrev pub read-order : List ℕ → Option (Order Numbers)
-read-order bs = cond (eqb (length bs) 17) (order-of (getD bs 0 0) (tuning-at bs) (number-of (part 13 4 bs))) None
-
--- what reading bytes answers
-pub record Order-read (bs : List ℕ) (r : Option (Order Numbers)) : Type 0 where
-  pub value : r ≡ read-order bs
-  -- the bytes of an order are read as that order
-  pub back : (o : Order Numbers) → Fits-order o → bs ≡ order-bytes o → r ≡ Some o
-  -- and no others are
-  pub only : (o : Order Numbers) → r ≡ Some o → bs ≡ order-bytes o
+read-order bs = cond (eqb (length bs) 17) (order-of (getD bs 0 0) (numbers-of (part 1 12 bs)) (number-of (part 13 4 bs))) None
 
 -- the first place of an own number whose byte is not 0, or the place past it
 abbrev pub own-misfit : List ℕ → ℕ
@@ -94,14 +81,3 @@ own-misfit bs =
 -- where it is not 0; the least of these
 abbrev pub misfit : List ℕ → ℕ
 misfit bs = min (min (length bs) 17) (min (cond (ltb 4 (getD bs 0 0)) 0 17) (cond (eqb (getD bs 0 0) 3) (own-misfit bs) 17))
-
--- where bytes cease to be an order's: some order begins with those before this place, and none with one more
-pub record Ceases (bs : List ℕ) (p : ℕ) : Type 0 where
-  pub within : p ≤ length bs
-  pub before : (o : Order Numbers) × Fits-order o × (take p (order-bytes o) ≡ take p bs)
-  pub past : (o : Order Numbers) → take (suc p) (order-bytes o) ≡ take (suc p) bs → ⊥
-
--- where reading stops
-pub record Order-misfit (bs : List ℕ) (r : ℕ) : Type 0 where
-  pub value : r ≡ misfit bs
-  pub ceases : read-order bs ≡ None → Ceases bs r

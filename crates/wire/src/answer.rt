@@ -5,7 +5,7 @@ ghost use Prim.Native.Nat.{_≤_};
 ghost use lib.Dec.{leb};
 ghost use lib.ListN.{length};
 ghost use Rattle.std.specs.declared.option.Option.the-variants.{Some, None};
-ghost use Rattle.wire.specs.Answers.{refusal-number, refusal-of, count, pair-bytes, pairs-bytes, answer-bytes, Answers-apart, Answer-read, over, pair-of, read-pairs};
+ghost use Rattle.wire.specs.Answers.{refusal-number, refusal-of, count, pair-bytes, pairs-bytes, answer-bytes, over, pair-of, read-pairs, read-answer};
 use super::bytes::number;
 use super::bytes::put_number;
 
@@ -172,7 +172,7 @@ impl Answer {
 
     // The answer that the bytes are, if they are one.
     pub fn read(bytes: &[u8]) -> Option<Answer>
-        ensures { λ r. ⌜ Answer-read (now (bytes .entry)) r ⌝ }
+        ensures { λ r. ⌜ r ≡ read-answer (now (bytes .entry)) ⌝ }
     {
         match bytes {
             [0, ..] if bytes.len() == 9 => {
@@ -191,7 +191,6 @@ impl Answer {
     pub fn write(self, out: &mut [u8]) -> Option<usize>
         ensures value { λ r. ⌜ r ≡ cond (leb (length (answer-bytes self)) (length (now (out .entry)))) (Some (length (answer-bytes self))) None ⌝ }
         ensures after { λ r. ⌜ now (out .exit) ≡ cond (leb (length (answer-bytes self)) (length (now (out .entry)))) (over (answer-bytes self) (now (out .entry))) (now (out .entry)) ⌝ }
-        ensures apart { λ _. ⌜ Answers-apart ⌝ }
     {
         let length = self.length();
         if out.len() < length {

@@ -1,7 +1,7 @@
 // Orders: what is asked of a tuning, and its 17 bytes.
 ghost use mathlib.Core.Path.{_≡_};
-ghost use lib.ListN.{getD};
-ghost use Rattle.wire.specs.Orders.{tuning-of, asked-of, kind, own, order-bytes, Orders-apart, Order-read, order-of, Order-misfit, own-misfit};
+ghost use lib.ListN.{length, getD};
+ghost use Rattle.wire.specs.Orders.{tuning-of, asked-of, kind, own, numbers-bytes, numbers-of, order-bytes, read-order, order-of, misfit, own-misfit};
 use super::bytes::number;
 use super::bytes::put_number;
 
@@ -14,6 +14,28 @@ pub struct Numbers {
     pub octave: u32,
     pub interval: u32,
     pub notes: u32,
+}
+
+impl Numbers {
+    fn read(bytes: &[u8]) -> Numbers
+        requires { ⌜ length (now bytes) ≡ 12 ⌝ }
+        ensures { λ r. ⌜ r ≡ numbers-of (now (bytes .entry)) ⌝ }
+    {
+        Numbers {
+            octave: number(&bytes[0..4]),
+            interval: number(&bytes[4..8]),
+            notes: number(&bytes[8..12]),
+        }
+    }
+
+    fn put(self, out: &mut [u8])
+        requires { ⌜ length (now out) ≡ 12 ⌝ }
+        ensures { λ _. ⌜ now (out .exit) ≡ numbers-bytes self ⌝ }
+    {
+        put_number(&mut out[0..4], self.octave);
+        put_number(&mut out[4..8], self.interval);
+        put_number(&mut out[8..12], self.notes);
+    }
 }
 
 // What is asked of a tuning: T is what is known of it.
@@ -94,39 +116,38 @@ fn order_of(kind: u8, tuning: Numbers, own: u32) -> Option<Order<Numbers>>
 }
 
 impl Order<Numbers> {
-    // The order's bytes, which no other order has.
+    // The order's bytes.
     pub fn to_bytes(self) -> [u8; LENGTH]
-        ensures bytes { λ r. ⌜ r ≡ order-bytes self ⌝ }
-        ensures apart { λ _. ⌜ Orders-apart ⌝ }
+        ensures { λ r. ⌜ r ≡ order-bytes self ⌝ }
     {
-        let tuning = self.tuning();
         let mut bytes = [0; LENGTH];
-        bytes[0] = self.kind();
-        put_number(&mut bytes[1..5], tuning.octave);
-        put_number(&mut bytes[5..9], tuning.interval);
-        put_number(&mut bytes[9..13], tuning.notes);
-        put_number(&mut bytes[13..17], self.own());
+        self.put(&mut bytes);
         bytes
+    }
+
+    fn put(self, out: &mut [u8])
+        requires { ⌜ length (now out) ≡ 17 ⌝ }
+        ensures { λ _. ⌜ now (out .exit) ≡ order-bytes self ⌝ }
+    {
+        out[0] = self.kind();
+        self.tuning().put(&mut out[1..13]);
+        put_number(&mut out[13..17], self.own());
     }
 
     // The order that the bytes are, if they are one.
     pub fn read(bytes: &[u8]) -> Option<Order<Numbers>>
-        ensures { λ r. ⌜ Order-read (now (bytes .entry)) r ⌝ }
+        ensures { λ r. ⌜ r ≡ read-order (now (bytes .entry)) ⌝ }
     {
         if bytes.len() != LENGTH {
             return None;
         }
-        let tuning = Numbers {
-            octave: number(&bytes[1..5]),
-            interval: number(&bytes[5..9]),
-            notes: number(&bytes[9..13]),
-        };
+        let tuning = Numbers::read(&bytes[1..13]);
         order_of(bytes[0], tuning, number(&bytes[13..17]))
     }
 
     // The place of the first byte that doesn't fit; the length if the bytes are an order.
     pub fn misfit(bytes: &[u8]) -> u32
-        ensures { λ r. ⌜ Order-misfit (now (bytes .entry)) r ⌝ }
+        ensures { λ r. ⌜ r ≡ misfit (now (bytes .entry)) ⌝ }
     {
         let length = bytes.len().min(LENGTH) as u32;
         match byte_at(bytes, 0) {

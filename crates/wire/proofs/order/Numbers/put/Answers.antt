@@ -1,0 +1,17 @@
+use mathlib.Core.Path.{_≡_, refl}
+use mathlib.Core.List.{List, [], _++_}
+use Prim.Native.Nat.{ℕ}
+use Rattle.wire.specs.Bytes.{four}
+use Rattle.wire.specs.Orders.{numbers-bytes}
+use Rattle.wire.proofs.Fronts.{then-part, all-of}
+use Rattle.wire.proofs.order.Numbers.put.Needs as need
+
+pub returns : need.returns
+returns c =
+    let out = c .args .out .now in
+    let octave = four (c .args .self .octave) in
+    let interval = four (c .args .self .interval) in
+    let one = then-part [] octave out refl (c .put-number .ensures) in
+    let two = then-part octave interval out one (c .put-number-2 .ensures) in
+    let three = then-part (octave ++ interval) (four (c .args .self .notes)) out two (c .put-number-3 .ensures) in
+    all-of (numbers-bytes (c .args .self)) out three (c .pre)
