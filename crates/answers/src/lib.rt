@@ -13,6 +13,9 @@ use wire::answer::Refused;
 use wire::order::Numbers;
 use wire::order::Order;
 
+#[cfg(test)]
+mod tests;
+
 // How many bytes an answer is lent.
 pub const ROOM: usize = 64;
 

@@ -20,38 +20,38 @@ use wire::order;
 // How many bytes are read at a time: 4,096 orders.
 const PIECE: usize = 69_632;
 
+const WANTED: &str = "give one file of 17-byte orders, or - for standard input";
+
 // Why the program ends with status 1.
 #[derive(Drop)]
 enum Failure {
     Arguments,
     Open(String, io::Error),
-    Stream(io::Error),
+    Memory,
+    Read(io::Error),
+    Write(io::Error),
+}
+
+impl From<AllocError> for Failure as FailureFromAlloc {
+    fn from(_error: AllocError) -> Failure {
+        Failure::Memory
+    }
 }
 
 impl From<io::Error> for Failure as FailureFromIo {
     fn from(error: io::Error) -> Failure {
-        Failure::Stream(error)
-    }
-}
-
-impl From<AllocError> for Failure as FailureFromAlloc {
-    fn from(error: AllocError) -> Failure {
-        Failure::Stream(io::Error::from(error))
+        Failure::Write(error)
     }
 }
 
 impl fmt::Display for Failure as FailureDisplay {
     fn fmt<W: fmt::Write>(&self, f: &mut fmt::Formatter<W>) -> fmt::Result {
         match self {
-            Failure::Arguments => write!(
-                f,
-                "give one file of 17-byte orders, or - for standard input"
-            ),
-            Failure::Open(path, error) => write!(
-                f,
-                "can't open {path}: {error}; give a file of 17-byte orders, or - for standard input"
-            ),
-            Failure::Stream(error) => write!(f, "{error}"),
+            Failure::Arguments => write!(f, "{WANTED}"),
+            Failure::Open(path, error) => write!(f, "can't open {path}: {error}; {WANTED}"),
+            Failure::Memory => write!(f, "not enough memory"),
+            Failure::Read(error) => write!(f, "can't read the orders: {error}"),
+            Failure::Write(error) => write!(f, "can't write the answers: {error}"),
         }
     }
 }
@@ -67,7 +67,9 @@ fn main(rt: LibcRuntime) -> Result<(), Failure> {
 }
 
 fn run(rt: &LibcRuntime) -> Result<(), Failure> {
-    let mut args = env::args(rt)?;
+    let Ok(mut args) = env::args(rt) else {
+        return Err(Failure::Arguments);
+    };
     let _ = args.next();
     let (Some(path), None) = (args.next(), args.next()) else {
         return Err(Failure::Arguments);
@@ -86,30 +88,31 @@ fn answer_all<R: Read + Drop>(rt: &LibcRuntime, mut input: R) -> Result<(), Fail
     let mut piece = vec![in rt.alloc(); 0; PIECE]?;
     let mut out = BufWriter::new(rt.stdout());
     for _ in 0..u64::MAX {
-        let filled = fill(&mut input, &mut piece)?;
+        let filled = match fill(&mut input, &mut piece) {
+            Ok(0) => break,
+            Ok(filled) => filled,
+            Err(error) => return Err(Failure::Read(error)),
+        };
         for bytes in piece[0..filled].chunks(order::LENGTH) {
             let line = Line::of(bytes);
             writeln!(out, "{line}")?;
         }
-        if filled < PIECE {
-            break;
-        }
+        out.flush()?;
     }
-    out.flush()?;
     Ok(())
 }
 
-// Reads until the piece is full, or the input ends.
+// Reads on until there are whole orders, the piece is full, or the input ends: so what waits for an answer gets it.
 fn fill<R: Read>(input: &mut R, piece: &mut [u8]) -> io::Result<usize>
     ensures { λ r. ⌜ made r (λ n. n ≤ length (now (piece .exit))) ⌝ }
 {
     let mut filled = 0;
     while filled < piece.len() {
         let more = input.read(&mut piece[filled..])?;
-        if more == 0 {
+        filled += more;
+        if more == 0 || filled % order::LENGTH == 0 {
             break;
         }
-        filled += more;
     }
     Ok(filled)
 }
