@@ -1,5 +1,5 @@
 -- What is replied to an order, and what is written. Assumes nothing: these are definitions.
-use mathlib.Core.Bool.{cond}
+use mathlib.Core.Bool.{Bool, cond}
 use mathlib.Core.List.{List}
 use Prim.Native.Nat.{ℕ}
 use lib.Dec.{leb}
@@ -14,7 +14,7 @@ use Rattle.wire.specs.declared.answer.Answer.the-variants.{Refused}
 use Rattle.wire.specs.declared.answer.Refusal.{Refusal}
 use Rattle.wire.specs.declared.answer.Refusal.the-variants.{Unreadable, OutOfRange, NoRoom}
 use Rattle.wire.specs.declared.answer.Refused.{Refused as RefusedAt}
-use Rattle.wire.specs.declared.order.Numbers.{Numbers}
+use Rattle.wire.specs.declared.order.RawTuning.{RawTuning}
 use Rattle.wire.specs.declared.order.Order.{Order}
 use Rattle.wire.specs.Answers.{answer-bytes, over}
 use Rattle.wire.specs.Orders.{tuning-of, asked-of, read-order, misfit}
@@ -26,18 +26,18 @@ Reply = Result (Order Tuning) RefusedAt
 abbrev pub refused : Refusal → ℕ → Reply
 refused r place = Err (record { refusal = r; place = place })
 
--- the checks of an order that can be read: the octave, the interval and the number of notes are in range, and there is room for an answer
-abbrev pub checked : Order Numbers → Numbers → ℕ → Reply
+-- a check: what doesn't pass is refused, and what passes goes on
+abbrev pub unless : Bool → Reply → Reply → Reply
+unless passes refusal next = cond passes next refusal
+
+-- the checks of an order that can be read, with so much room for the answer
+abbrev pub checked : Order RawTuning → RawTuning → ℕ → Reply
 checked o t room =
-    cond (octave-fits (t .octave))
-    (cond (interval-fits (t .octave) (t .interval))
-    (cond (notes-fit (t .octave) (t .notes))
-    (cond (leb 64 room)
-    (Ok (asked-of o (record { octave = t .octave; interval = t .interval; notes = t .notes })))
-    (refused NoRoom 0))
-    (refused OutOfRange 2))
-    (refused OutOfRange 1))
-    (refused OutOfRange 0)
+    unless (octave-fits (t .octave)) (refused OutOfRange 0)
+    (unless (interval-fits (t .octave) (t .interval)) (refused OutOfRange 1)
+    (unless (notes-fit (t .octave) (t .notes)) (refused OutOfRange 2)
+    (unless (leb 64 room) (refused NoRoom 0)
+    (Ok (asked-of o (record { octave = t .octave; interval = t .interval; notes = t .notes }))))))
 
 -- the reply to these bytes, with so much room for the answer
 abbrev pub reply : List ℕ → ℕ → Reply

@@ -10,8 +10,8 @@ use scale::tuning::Tuning;
 use wire::answer::Answer;
 use wire::answer::Refusal;
 use wire::answer::Refused;
-use wire::order::Numbers;
 use wire::order::Order;
+use wire::order::RawTuning;
 
 #[cfg(test)]
 mod tests;
@@ -43,7 +43,7 @@ fn checked(bytes: &[u8], room: usize) -> Result<Order<Tuning>, Refused>
     let Some(order) = Order::read(bytes) else {
         return Err(Refusal::Unreadable.at(Order::misfit(bytes)));
     };
-    let Numbers {
+    let RawTuning {
         octave,
         interval,
         notes,

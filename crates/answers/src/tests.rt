@@ -2,11 +2,11 @@
 use super::ROOM;
 use super::answer;
 use std::test::*;
-use wire::order::Numbers;
 use wire::order::Order;
+use wire::order::RawTuning;
 
-const FIFTHS: Order<Numbers> = Order::Sizes {
-    tuning: Numbers {
+const FIFTHS: Order<RawTuning> = Order::Sizes {
+    tuning: RawTuning {
         octave: 1200,
         interval: 702,
         notes: 12,
@@ -16,7 +16,7 @@ const FIFTHS: Order<Numbers> = Order::Sizes {
 #[test]
 fn a_refusal_is_written_to_the_front() -> Result<(), Fail> {
     let mut out = [7; ROOM];
-    let too_wide = Numbers {
+    let too_wide = RawTuning {
         octave: 1200,
         interval: 1200,
         notes: 0,

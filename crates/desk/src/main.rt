@@ -102,7 +102,7 @@ fn answer_all<R: Read + Drop>(rt: &LibcRuntime, mut input: R) -> Result<(), Fail
     Ok(())
 }
 
-// Reads on until there are whole orders, the piece is full, or the input ends: so what waits for an answer gets it.
+// Reads on until there are whole orders, the piece is full, or the input ends; so an order is answered before more are sent.
 fn fill<R: Read>(input: &mut R, piece: &mut [u8]) -> io::Result<usize>
     ensures { λ r. ⌜ made r (λ n. n ≤ length (now (piece .exit))) ⌝ }
 {

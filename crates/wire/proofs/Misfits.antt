@@ -9,27 +9,27 @@ use Rattle.std.proofs.shelf.Lists.{getD-past, getD-take, length-take}
 use Rattle.std.proofs.shelf.Tests.{cases-eq, cases-lt}
 use Rattle.std.proofs.shelf.Ways.{tells}
 use Rattle.std.specs.declared.option.Option.the-variants.{Some, None}
-use Rattle.wire.specs.declared.order.Numbers.{Numbers}
+use Rattle.wire.specs.declared.order.RawTuning.{RawTuning}
 use Rattle.wire.specs.declared.order.Order.{Order}
 use Rattle.wire.specs.declared.order.Order.the-variants.{Place, Next, At, Sizes, Whole}
 use Rattle.wire.specs.Bytes.{number-of, part}
 use Rattle.wire.specs.Laws.{Bytes, Fits-order, Orders-cease}
-use Rattle.wire.specs.Orders.{kind, misfit, numbers-of, order-bytes, order-of, own-misfit, read-order}
+use Rattle.wire.specs.Orders.{kind, misfit, tuning-in, order-bytes, order-of, own-misfit, read-order}
 use Rattle.wire.proofs.Numbers.{four-from, number-from, take-padded}
 use Rattle.wire.proofs.OrderLaws.{order-stands, stands-bytes, stands-fits}
 
 -- every kind up to 4 has an order, the one of sizes if its own number is 0
-order-there : (k x : ℕ) (t : Numbers) → k ≤ 4 → (k ≡ 3 → x ≡ 0) → (o : Order Numbers) × (order-of k t x ≡ Some o)
+order-there : (k x : ℕ) (t : RawTuning) → k ≤ 4 → (k ≡ 3 → x ≡ 0) → (o : Order RawTuning) × (order-of k t x ≡ Some o)
 order-there k x t h z = by (cases-eq k 0) (cases-eq k 1) (cases-eq k 2) (cases-eq k 3)
   where
-    by : (k ≡ 0) ⊎ (k ≡ 0 → ⊥) → (k ≡ 1) ⊎ (k ≡ 1 → ⊥) → (k ≡ 2) ⊎ (k ≡ 2 → ⊥) → (k ≡ 3) ⊎ (k ≡ 3 → ⊥) → (o : Order Numbers) × (order-of k t x ≡ Some o)
+    by : (k ≡ 0) ⊎ (k ≡ 0 → ⊥) → (k ≡ 1) ⊎ (k ≡ 1 → ⊥) → (k ≡ 2) ⊎ (k ≡ 2 → ⊥) → (k ≡ 3) ⊎ (k ≡ 3 → ⊥) → (o : Order RawTuning) × (order-of k t x ≡ Some o)
     by (inl e) b c d = (Place t x, grind (arith, tells))
     by (inr a) (inl e) c d = (Next t x, grind (arith, tells))
     by (inr a) (inr b) (inl e) d = (At t x, grind (arith, tells))
     by (inr a) (inr b) (inr c) (inl e) = let zero = z e in (Sizes t, grind (arith, tells))
     by (inr a) (inr b) (inr c) (inr d) = (Whole t x, grind (arith, tells))
 
-kind-small : (o : Order Numbers) → kind o ≤ 4
+kind-small : (o : Order RawTuning) → kind o ≤ 4
 kind-small (Place t x) = omega arith
 kind-small (Next t x) = omega arith
 kind-small (At t x) = omega arith
@@ -37,7 +37,7 @@ kind-small (Sizes t) = omega arith
 kind-small (Whole t x) = omega arith
 
 -- the own number of sizes is 0
-own-zero : (o : Order Numbers) → kind o ≡ 3 → (i : ℕ) → 13 ≤ i → i < 17 → getD (order-bytes o) i 0 ≡ 0
+own-zero : (o : Order RawTuning) → kind o ≡ 3 → (i : ℕ) → 13 ≤ i → i < 17 → getD (order-bytes o) i 0 ≡ 0
 own-zero (Place t x) h i low high = absurd (omega arith)
 own-zero (Next t x) h i low high = absurd (omega arith)
 own-zero (At t x) h i low high = absurd (omega arith)
@@ -68,9 +68,9 @@ module _ (bs : List ℕ) where
 
 module _ (bs cs : List ℕ) (small : Bytes cs) where
   -- the order whose numbers stand in cs begins as bs does, as far as cs does
-  begins : (p : ℕ) → p ≤ 17 → p ≤ length bs → ((i : ℕ) → i < p → getD cs i 0 ≡ getD bs i 0) → getD cs 0 0 ≤ 4 → (getD cs 0 0 ≡ 3 → number-of (part 13 4 cs) ≡ 0) → (o : Order Numbers) × Fits-order o × (take p (order-bytes o) ≡ take p bs)
+  begins : (p : ℕ) → p ≤ 17 → p ≤ length bs → ((i : ℕ) → i < p → getD cs i 0 ≡ getD bs i 0) → getD cs 0 0 ≤ 4 → (getD cs 0 0 ≡ 3 → number-of (part 13 4 cs) ≡ 0) → (o : Order RawTuning) × Fits-order o × (take p (order-bytes o) ≡ take p bs)
   begins p few within same low own =
-      let there = order-there (getD cs 0 0) (number-of (part 13 4 cs)) (numbers-of (part 1 12 cs)) low own in
+      let there = order-there (getD cs 0 0) (number-of (part 13 4 cs)) (tuning-in (part 1 12 cs)) low own in
       let stands = order-stands cs (there .0) (there .1) in
       (there .0, stands-fits cs small stands, ap (take p) (stands-bytes cs small stands) ∙ take-padded bs cs 17 p few within same)
 
@@ -84,7 +84,7 @@ module _ (bs : List ℕ) where
 
 module _ (bs : List ℕ) (small : Bytes bs) where
   abbrev Begun : ℕ → Type 0
-  Begun p = (o : Order Numbers) × Fits-order o × (take p (order-bytes o) ≡ take p bs)
+  Begun p = (o : Order RawTuning) × Fits-order o × (take p (order-bytes o) ≡ take p bs)
 
   sizes-begun : getD bs 0 0 ≡ 3 → Begun (misfit bs)
   sizes-begun three =
@@ -107,7 +107,7 @@ module _ (bs : List ℕ) (small : Bytes bs) where
       by (inr low) (inl three) = sizes-begun three
       by (inr low) (inr other) = begins bs bs small (misfit bs) (bounds bs .1) (bounds bs .0) (λ i h. refl) low (λ three. absurd (other three))
 
-  module _ (o : Order Numbers) (same : take (suc (misfit bs)) (order-bytes o) ≡ take (suc (misfit bs)) bs) where
+  module _ (o : Order RawTuning) (same : take (suc (misfit bs)) (order-bytes o) ≡ take (suc (misfit bs)) bs) where
     same-at : (i : ℕ) → i ≤ misfit bs → getD (order-bytes o) i 0 ≡ getD bs i 0
     same-at i h = sym (getD-take (suc (misfit bs)) (order-bytes o) i 0 (omega arith)) ∙ ap (λ l. getD l i 0) same ∙ getD-take (suc (misfit bs)) bs i 0 (omega arith)
 
@@ -122,8 +122,8 @@ module _ (bs : List ℕ) (small : Bytes bs) where
     whole-past full none =
         let long : length bs ≡ 17 = omega (arith, same-length, bounds bs .0) in
         let low : getD bs 0 0 ≤ 4 = omega (arith, kind-small o, same-kind) in
-        let there = order-there (getD bs 0 0) (number-of (part 13 4 bs)) (numbers-of (part 1 12 bs)) low (λ three. own-none bs (omega (arith, bounds bs .3 three, own-few bs))) in
-        let not : order-of (getD bs 0 0) (numbers-of (part 1 12 bs)) (number-of (part 13 4 bs)) ≡ None = rw long at none in
+        let there = order-there (getD bs 0 0) (number-of (part 13 4 bs)) (tuning-in (part 1 12 bs)) low (λ three. own-none bs (omega (arith, bounds bs .3 three, own-few bs))) in
+        let not : order-of (getD bs 0 0) (tuning-in (part 1 12 bs)) (number-of (part 13 4 bs)) ≡ None = rw long at none in
         let absurd-pair : _≡_ {A = ℕ} 0 1 = cc (there .1, not) in
         omega arith
 
@@ -134,7 +134,7 @@ module _ (bs : List ℕ) (small : Bytes bs) where
         let none = own-zero o (same-kind ∙ three .0) (misfit bs) (omega arith) short in
         omega (arith, none, same-at (misfit bs) (omega arith), ap (λ i. getD bs i 0) (three .1))
 
-  past : read-order bs ≡ None → (o : Order Numbers) → take (suc (misfit bs)) (order-bytes o) ≡ take (suc (misfit bs)) bs → ⊥
+  past : read-order bs ≡ None → (o : Order RawTuning) → take (suc (misfit bs)) (order-bytes o) ≡ take (suc (misfit bs)) bs → ⊥
   past none o same = ⊎-elim (λ h. short-past o same h) (λ h. whole-past o same (omega (arith, bounds bs .1)) none) (cases-lt (misfit bs) 17)
 
 pub orders-cease : Orders-cease

@@ -1,8 +1,8 @@
 -- What an answer's bytes are, and which answer bytes are. Assumes nothing: these are definitions.
-use mathlib.Core.Bool.{cond, _&&_}
+use mathlib.Core.Bool.{Bool, cond, _&&_}
 use mathlib.Core.List.{List, [], _∷_, _++_}
 use Prim.Native.Nat.{ℕ}
-use lib.Dec.{eqb}
+use lib.Dec.{eqb, leb}
 use lib.ListN.{length, getD, drop}
 use Rattle.std.specs.declared.option.Option.{Option}
 use Rattle.std.specs.declared.option.Option.the-variants.{Some, None}
@@ -83,6 +83,10 @@ answer-of k n r x p ps =
 -- the answer that a list of bytes is, if it is one
 abbrev pub read-answer : List ℕ → Option Answer
 read-answer bs = answer-of (getD bs 0 0) (length bs) (read-refused bs) (number-of (part 1 4 bs)) (pair-of (part 1 8 bs)) (read-pairs bs)
+
+-- an answer fits into so many bytes
+abbrev pub has-room : Answer → List ℕ → Bool
+has-room a out = leb (length (answer-bytes a)) (length out)
 
 -- some bytes over the front of others
 abbrev pub over : List ℕ → List ℕ → List ℕ

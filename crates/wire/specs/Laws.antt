@@ -10,7 +10,7 @@ use Rattle.wire.specs.declared.answer.Answer.the-variants.{Refused, Number, Nu
 use Rattle.wire.specs.declared.answer.Pair.{Pair}
 use Rattle.wire.specs.declared.answer.Pairs.{Pairs}
 use Rattle.wire.specs.declared.answer.Pairs.the-variants.{Zero, One, Two, Three}
-use Rattle.wire.specs.declared.order.Numbers.{Numbers as Tuning}
+use Rattle.wire.specs.declared.order.RawTuning.{RawTuning}
 use Rattle.wire.specs.declared.order.Order.{Order}
 use Rattle.wire.specs.Answers.{answer-bytes, read-answer}
 use Rattle.wire.specs.Orders.{tuning-of, own, order-bytes, read-order, misfit}
@@ -20,26 +20,26 @@ abbrev pub Bytes : List ℕ → Type 0
 Bytes bs = (i : ℕ) → getD bs i 0 < 256
 
 -- an order whose numbers fit four bytes
-abbrev pub Fits-order : Order Tuning → Type 0
+abbrev pub Fits-order : Order RawTuning → Type 0
 Fits-order o = (tuning-of o .octave < 2 ^ 32) × (tuning-of o .interval < 2 ^ 32) × (tuning-of o .notes < 2 ^ 32) × (own o < 2 ^ 32)
 
 -- the bytes of an order are read as that order
 abbrev pub Orders-read-back : Type 0
-Orders-read-back = (o : Order Tuning) → Fits-order o → read-order (order-bytes o) ≡ Some o
+Orders-read-back = (o : Order RawTuning) → Fits-order o → read-order (order-bytes o) ≡ Some o
 
 -- and no others are
 abbrev pub Only-orders-read : Type 0
-Only-orders-read = (bs : List ℕ) → Bytes bs → (o : Order Tuning) → read-order bs ≡ Some o → bs ≡ order-bytes o
+Only-orders-read = (bs : List ℕ) → Bytes bs → (o : Order RawTuning) → read-order bs ≡ Some o → bs ≡ order-bytes o
 
 -- two orders have different bytes
 abbrev pub Orders-apart : Type 0
-Orders-apart = (o p : Order Tuning) → Fits-order o → Fits-order p → order-bytes o ≡ order-bytes p → o ≡ p
+Orders-apart = (o p : Order RawTuning) → Fits-order o → Fits-order p → order-bytes o ≡ order-bytes p → o ≡ p
 
 -- where bytes cease to be an order's: some order begins with those before this place, and none with one more
 pub record Ceases (bs : List ℕ) (p : ℕ) : Type 0 where
   pub within : p ≤ length bs
-  pub before : (o : Order Tuning) × Fits-order o × (take p (order-bytes o) ≡ take p bs)
-  pub past : (o : Order Tuning) → take (suc p) (order-bytes o) ≡ take (suc p) bs → ⊥
+  pub before : (o : Order RawTuning) × Fits-order o × (take p (order-bytes o) ≡ take p bs)
+  pub past : (o : Order RawTuning) → take (suc p) (order-bytes o) ≡ take (suc p) bs → ⊥
 
 -- what is no order ceases to be one at its misfit
 abbrev pub Orders-cease : Type 0

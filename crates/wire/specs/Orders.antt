@@ -7,7 +7,7 @@ use lib.ListN.{length, getD}
 use Rattle.std.specs.declared.option.Option.{Option}
 use Rattle.std.specs.declared.option.Option.the-variants.{Some, None}
 use Rattle.wire.specs.Bytes.{four, number-of, part}
-use Rattle.wire.specs.declared.order.Numbers.{Numbers}
+use Rattle.wire.specs.declared.order.RawTuning.{RawTuning}
 use Rattle.wire.specs.declared.order.Order.{Order}
 use Rattle.wire.specs.declared.order.Order.the-variants.{Place, Next, At, Sizes, Whole}
 
@@ -45,15 +45,15 @@ module _ {T U : Type 0} where
   asked-of (Whole _ m) u = Whole u m
 
 -- the 12 bytes of a tuning's numbers
-abbrev pub numbers-bytes : Numbers → List ℕ
-numbers-bytes t = four (t .octave) ++ (four (t .interval) ++ four (t .notes))
+abbrev pub tuning-bytes : RawTuning → List ℕ
+tuning-bytes t = four (t .octave) ++ (four (t .interval) ++ four (t .notes))
 
 -- an order's 17 bytes: its kind, the numbers of its tuning, and its own
-abbrev pub order-bytes : Order Numbers → List ℕ
-order-bytes o = kind o ∷ (numbers-bytes (tuning-of o) ++ four (own o))
+abbrev pub order-bytes : Order RawTuning → List ℕ
+order-bytes o = kind o ∷ (tuning-bytes (tuning-of o) ++ four (own o))
 
 -- the order of a kind, if there is one: the own number of sizes is 0
-abbrev pub order-of : ℕ → Numbers → ℕ → Option (Order Numbers)
+abbrev pub order-of : ℕ → RawTuning → ℕ → Option (Order RawTuning)
 order-of k t x =
     cond (eqb k 0) (Some (Place t x))
     (cond (eqb k 1) (Some (Next t x))
@@ -62,12 +62,12 @@ order-of k t x =
     (cond (eqb k 4) (Some (Whole t x)) None))))
 
 -- the numbers that 12 bytes are
-abbrev pub numbers-of : List ℕ → Numbers
-numbers-of bs = record { octave = number-of (part 0 4 bs); interval = number-of (part 4 4 bs); notes = number-of (part 8 4 bs) }
+abbrev pub tuning-in : List ℕ → RawTuning
+tuning-in bs = record { octave = number-of (part 0 4 bs); interval = number-of (part 4 4 bs); notes = number-of (part 8 4 bs) }
 
 -- the order that a list of bytes is, if it is one
-abbrev pub read-order : List ℕ → Option (Order Numbers)
-read-order bs = cond (eqb (length bs) 17) (order-of (getD bs 0 0) (numbers-of (part 1 12 bs)) (number-of (part 13 4 bs))) None
+abbrev pub read-order : List ℕ → Option (Order RawTuning)
+read-order bs = cond (eqb (length bs) 17) (order-of (getD bs 0 0) (tuning-in (part 1 12 bs)) (number-of (part 13 4 bs))) None
 
 -- the first place of an own number whose byte is not 0, or the place past it
 abbrev pub own-misfit : List ℕ → ℕ

@@ -2,14 +2,13 @@
 ghost use mathlib.Core.Path.{_≡_};
 ghost use mathlib.Core.Bool.{cond};
 ghost use Prim.Native.Nat.{_≤_};
-ghost use lib.Dec.{leb};
 ghost use lib.ListN.{length};
 ghost use Rattle.std.specs.declared.option.Option.the-variants.{Some, None};
-ghost use Rattle.wire.specs.Answers.{refusal-number, refusal-of, count, pair-bytes, pairs-bytes, answer-bytes, over, pair-of, read-pairs, read-answer};
+ghost use Rattle.wire.specs.Answers.{refusal-number, refusal-of, count, pair-bytes, pairs-bytes, answer-bytes, has-room, over, pair-of, read-pairs, read-answer};
 use super::bytes::number;
 use super::bytes::put_number;
 
-// Why an order is turned away, in the order of the checks.
+// Why an order is refused, in the order of the checks.
 #[derive(Clone, Copy)]
 pub enum Refusal {
     // it can't be read
@@ -25,12 +24,14 @@ pub enum Refusal {
 }
 
 impl Refusal {
+    // The number by which the refusal goes in an answer.
     pub fn number(self) -> u32
         ensures { λ r. ⌜ r ≡ refusal-number self ⌝ }
     {
         self as u32
     }
 
+    // The refusal of a number, if there is one.
     pub fn of_number(number: u32) -> Option<Refusal>
         ensures { λ r. ⌜ r ≡ refusal-of number ⌝ }
     {
@@ -44,6 +45,7 @@ impl Refusal {
         }
     }
 
+    // The refusal at a place.
     pub fn at(self, place: u32) -> Refused
         ensures { λ r. ⌜ (r .refusal ≡ self) × (r .place ≡ place) ⌝ }
     {
@@ -61,6 +63,7 @@ pub struct Refused {
     pub place: u32,
 }
 
+// Two numbers that go together, as a note and a step.
 #[derive(Clone, Copy)]
 pub struct Pair {
     pub first: u32,
@@ -68,6 +71,7 @@ pub struct Pair {
 }
 
 impl Pair {
+    // The pair that eight bytes are.
     fn read(bytes: &[u8]) -> Pair
         requires { ⌜ length (now bytes) ≡ 8 ⌝ }
         ensures { λ r. ⌜ r ≡ pair-of (now (bytes .entry)) ⌝ }
@@ -78,6 +82,7 @@ impl Pair {
         }
     }
 
+    // Writes the pair's eight bytes.
     fn put(self, out: &mut [u8])
         requires { ⌜ length (now out) ≡ 8 ⌝ }
         ensures { λ _. ⌜ now (out .exit) ≡ pair-bytes self ⌝ }
@@ -97,6 +102,7 @@ pub enum Pairs {
 }
 
 impl Pairs {
+    // How many pairs there are.
     pub fn count(self) -> u32
         ensures { λ r. ⌜ r ≡ count self ⌝ }
     {
@@ -149,6 +155,7 @@ impl Pairs {
     }
 }
 
+// What is answered to an order.
 #[derive(Clone, Copy)]
 pub enum Answer {
     Refused(Refused),
@@ -189,8 +196,8 @@ impl Answer {
 
     // Writes the answer to the front of `out`, and says how long it is; where there is too little room nothing is written.
     pub fn write(self, out: &mut [u8]) -> Option<usize>
-        ensures value { λ r. ⌜ r ≡ cond (leb (length (answer-bytes self)) (length (now (out .entry)))) (Some (length (answer-bytes self))) None ⌝ }
-        ensures after { λ r. ⌜ now (out .exit) ≡ cond (leb (length (answer-bytes self)) (length (now (out .entry)))) (over (answer-bytes self) (now (out .entry))) (now (out .entry)) ⌝ }
+        ensures value { λ r. ⌜ r ≡ cond (has-room self (now (out .entry))) (Some (length (answer-bytes self))) None ⌝ }
+        ensures after { λ _. ⌜ now (out .exit) ≡ cond (has-room self (now (out .entry))) (over (answer-bytes self) (now (out .entry))) (now (out .entry)) ⌝ }
     {
         let length = self.length();
         if out.len() < length {
@@ -200,6 +207,7 @@ impl Answer {
         Some(length)
     }
 
+    // Writes the answer to the front.
     fn put(self, out: &mut [u8])
         requires { ⌜ length (answer-bytes self) ≤ length (now out) ⌝ }
         ensures { λ _. ⌜ now (out .exit) ≡ over (answer-bytes self) (now (out .entry)) ⌝ }

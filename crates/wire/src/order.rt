@@ -1,36 +1,38 @@
 // Orders: what is asked of a tuning, and its 17 bytes.
 ghost use mathlib.Core.Path.{_≡_};
 ghost use lib.ListN.{length, getD};
-ghost use Rattle.wire.specs.Orders.{tuning-of, asked-of, kind, own, numbers-bytes, numbers-of, order-bytes, read-order, order-of, misfit, own-misfit};
+ghost use Rattle.wire.specs.Orders.{tuning-of, asked-of, kind, own, tuning-bytes, tuning-in, order-bytes, read-order, order-of, misfit, own-misfit};
 use super::bytes::number;
 use super::bytes::put_number;
 
 // How many bytes an order has.
 pub const LENGTH: usize = 17;
 
-// The numbers of a tuning as an order gives them, in range or not.
+// A tuning as an order gives it, in range or not.
 #[derive(Clone, Copy)]
-pub struct Numbers {
+pub struct RawTuning {
     pub octave: u32,
     pub interval: u32,
     pub notes: u32,
 }
 
-impl Numbers {
-    fn read(bytes: &[u8]) -> Numbers
+impl RawTuning {
+    // The tuning that 12 bytes are.
+    fn read(bytes: &[u8]) -> RawTuning
         requires { ⌜ length (now bytes) ≡ 12 ⌝ }
-        ensures { λ r. ⌜ r ≡ numbers-of (now (bytes .entry)) ⌝ }
+        ensures { λ r. ⌜ r ≡ tuning-in (now (bytes .entry)) ⌝ }
     {
-        Numbers {
+        RawTuning {
             octave: number(&bytes[0..4]),
             interval: number(&bytes[4..8]),
             notes: number(&bytes[8..12]),
         }
     }
 
+    // Writes the tuning's 12 bytes.
     fn put(self, out: &mut [u8])
         requires { ⌜ length (now out) ≡ 12 ⌝ }
-        ensures { λ _. ⌜ now (out .exit) ≡ numbers-bytes self ⌝ }
+        ensures { λ _. ⌜ now (out .exit) ≡ tuning-bytes self ⌝ }
     {
         put_number(&mut out[0..4], self.octave);
         put_number(&mut out[4..8], self.interval);
@@ -62,6 +64,7 @@ impl<T: Copy> Order<T> {
         }
     }
 
+    // The order's kind, its first byte.
     fn kind(self) -> u8
         ensures { λ r. ⌜ r ≡ kind self ⌝ }
     {
@@ -102,7 +105,7 @@ impl<T: Copy> Order<T> {
 }
 
 // The order of a kind, if there is one.
-fn order_of(kind: u8, tuning: Numbers, own: u32) -> Option<Order<Numbers>>
+fn order_of(kind: u8, tuning: RawTuning, own: u32) -> Option<Order<RawTuning>>
     ensures { λ r. ⌜ r ≡ order-of kind tuning own ⌝ }
 {
     match kind {
@@ -115,7 +118,7 @@ fn order_of(kind: u8, tuning: Numbers, own: u32) -> Option<Order<Numbers>>
     }
 }
 
-impl Order<Numbers> {
+impl Order<RawTuning> {
     // The order's bytes.
     pub fn to_bytes(self) -> [u8; LENGTH]
         ensures { λ r. ⌜ r ≡ order-bytes self ⌝ }
@@ -125,6 +128,7 @@ impl Order<Numbers> {
         bytes
     }
 
+    // Writes the order's 17 bytes.
     fn put(self, out: &mut [u8])
         requires { ⌜ length (now out) ≡ 17 ⌝ }
         ensures { λ _. ⌜ now (out .exit) ≡ order-bytes self ⌝ }
@@ -135,13 +139,13 @@ impl Order<Numbers> {
     }
 
     // The order that the bytes are, if they are one.
-    pub fn read(bytes: &[u8]) -> Option<Order<Numbers>>
+    pub fn read(bytes: &[u8]) -> Option<Order<RawTuning>>
         ensures { λ r. ⌜ r ≡ read-order (now (bytes .entry)) ⌝ }
     {
         if bytes.len() != LENGTH {
             return None;
         }
-        let tuning = Numbers::read(&bytes[1..13]);
+        let tuning = RawTuning::read(&bytes[1..13]);
         order_of(bytes[0], tuning, number(&bytes[13..17]))
     }
 

@@ -3,13 +3,13 @@ use super::answer::Answer;
 use super::answer::Pair;
 use super::answer::Pairs;
 use super::answer::Refusal;
-use super::order::Numbers;
 use super::order::Order;
+use super::order::RawTuning;
 use std::test::*;
 
 #[test]
 fn an_order_and_its_bytes() -> Result<(), Fail> {
-    let tuning = Numbers {
+    let tuning = RawTuning {
         octave: 1200,
         interval: 702,
         notes: 12,

@@ -2,9 +2,9 @@ use mathlib.Core.Path.{_≡_, refl}
 use mathlib.Core.List.{List, [], _++_}
 use Prim.Native.Nat.{ℕ}
 use Rattle.wire.specs.Bytes.{four}
-use Rattle.wire.specs.Orders.{numbers-bytes}
+use Rattle.wire.specs.Orders.{tuning-bytes}
 use Rattle.wire.proofs.Fronts.{then-part, all-of}
-use Rattle.wire.proofs.order.Numbers.put.Needs as need
+use Rattle.wire.proofs.order.RawTuning.put.Needs as need
 
 pub returns : need.returns
 returns c =
@@ -14,4 +14,4 @@ returns c =
     let one = then-part [] octave out refl (c .put-number .ensures) in
     let two = then-part octave interval out one (c .put-number-2 .ensures) in
     let three = then-part (octave ++ interval) (four (c .args .self .notes)) out two (c .put-number-3 .ensures) in
-    all-of (numbers-bytes (c .args .self)) out three (c .pre)
+    all-of (tuning-bytes (c .args .self)) out three (c .pre)
