@@ -16,7 +16,8 @@ use Rattle.wire.specs.declared.answer.Refusal.the-variants.{Unreadable, OutOfRa
 use Rattle.wire.specs.declared.answer.Refused.{Refused as RefusedAt}
 use Rattle.wire.specs.declared.order.RawTuning.{RawTuning}
 use Rattle.wire.specs.declared.order.Order.{Order}
-use Rattle.wire.specs.Answers.{answer-bytes, over}
+use Rattle.wire.specs.Answers.{answer-bytes}
+use Rattle.wire.specs.Bytes.{over}
 use Rattle.wire.specs.Orders.{tuning-of, asked-of, read-order, misfit}
 
 -- refused, or taken: a question of a tuning in range

@@ -1,12 +1,12 @@
 -- Bytes that are written into the front of a slice, one part after the other. Assumes nothing.
-use mathlib.Core.Path.{_≡_, refl, sym, ap, _∙_}
+use mathlib.Core.Path.{_≡_, refl, ap, _∙_}
 use mathlib.Core.List.{List, [], _∷_, _++_}
-use Prim.Native.Nat.{ℕ, _+_, _-_, _≤_, _<_}
+use Prim.Native.Nat.{ℕ, _+_, _-_, _<_}
 use native.Mathlib.Omega.{arith}
 use borrow.Rule.Slice.PartMut.{putMid}
 use lib.ListN.{length, take, drop, set}
 use Rattle.std.proofs.shelf.Lists.{append-assoc, append-nil, drop-all, drop-at, drop-drop, length-append, length-drop, set-split, take-at, take-rest}
-use Rattle.wire.specs.Answers.{over}
+use Rattle.wire.specs.Bytes.{over}
 
 -- a first byte
 pub over-first : (b : ℕ) (out : List ℕ) → 0 < length out → set out 0 b ≡ over (b ∷ []) out

@@ -3,7 +3,7 @@ use mathlib.Core.Bool.{Bool, cond, _&&_}
 use mathlib.Core.List.{List, [], _∷_, _++_}
 use Prim.Native.Nat.{ℕ}
 use lib.Dec.{eqb, leb}
-use lib.ListN.{length, getD, drop}
+use lib.ListN.{length, getD}
 use Rattle.std.specs.declared.option.Option.{Option}
 use Rattle.std.specs.declared.option.Option.the-variants.{Some, None}
 use Rattle.std.specs.Options.{mapped}
@@ -87,7 +87,3 @@ read-answer bs = answer-of (getD bs 0 0) (length bs) (read-refused bs) (number-o
 -- an answer fits into so many bytes
 abbrev pub has-room : Answer → List ℕ → Bool
 has-room a out = leb (length (answer-bytes a)) (length out)
-
--- some bytes over the front of others
-abbrev pub over : List ℕ → List ℕ → List ℕ
-over bs out = bs ++ drop (length bs) out

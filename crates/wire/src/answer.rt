@@ -4,7 +4,8 @@ ghost use mathlib.Core.Bool.{cond};
 ghost use Prim.Native.Nat.{_≤_};
 ghost use lib.ListN.{length};
 ghost use Rattle.std.specs.declared.option.Option.the-variants.{Some, None};
-ghost use Rattle.wire.specs.Answers.{refusal-number, refusal-of, count, pair-bytes, pairs-bytes, answer-bytes, has-room, over, pair-of, read-pairs, read-answer};
+ghost use Rattle.wire.specs.Answers.{refusal-number, refusal-of, count, pair-bytes, pairs-bytes, answer-bytes, has-room, pair-of, read-pairs, read-answer};
+ghost use Rattle.wire.specs.Bytes.{over};
 use super::bytes::number;
 use super::bytes::put_number;
 

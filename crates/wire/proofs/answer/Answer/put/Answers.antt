@@ -1,9 +1,8 @@
-use mathlib.Core.Path.{_≡_, refl, sym, ap, _∙_}
-use mathlib.Core.List.{List, [], _∷_, _++_}
-use Prim.Native.Nat.{ℕ}
+use mathlib.Core.Path.{sym, ap, _∙_}
+use mathlib.Core.List.{List, [], _∷_}
 use native.Mathlib.Omega.{arith}
-use Rattle.wire.specs.Answers.{answer-bytes, count, pairs-bytes, over}
-use Rattle.wire.specs.Bytes.{four}
+use Rattle.wire.specs.Answers.{answer-bytes, count, pairs-bytes}
+use Rattle.wire.specs.Bytes.{four, over}
 use Rattle.wire.proofs.Fronts.{over-first, then-part, then-rest}
 use Rattle.wire.proofs.answer.Answer.put.Needs as need
 

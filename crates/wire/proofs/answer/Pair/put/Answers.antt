@@ -1,6 +1,5 @@
-use mathlib.Core.Path.{_≡_, refl}
-use mathlib.Core.List.{List, []}
-use Prim.Native.Nat.{ℕ}
+use mathlib.Core.Path.{refl}
+use mathlib.Core.List.{[]}
 use Rattle.wire.specs.Answers.{pair-bytes}
 use Rattle.wire.specs.Bytes.{four}
 use Rattle.wire.proofs.Fronts.{then-part, all-of}

@@ -1,7 +1,7 @@
-use mathlib.Core.Path.{_≡_, refl, sym, ap, _∙_}
-use mathlib.Core.List.{List, [], _++_}
-use Prim.Native.Nat.{ℕ}
-use Rattle.wire.specs.Answers.{pair-bytes, pairs-bytes, over}
+use mathlib.Core.Path.{refl, sym, ap, _∙_}
+use mathlib.Core.List.{[], _++_}
+use Rattle.wire.specs.Answers.{pair-bytes, pairs-bytes}
+use Rattle.wire.specs.Bytes.{over}
 use Rattle.wire.proofs.Fronts.{then-part}
 use Rattle.wire.proofs.answer.Pairs.put.Needs as need
 

@@ -1,9 +1,7 @@
-use mathlib.Core.Path.{_≡_, ap, _∙_}
-use mathlib.Core.List.{List, [], _∷_}
-use Prim.Native.Nat.{ℕ}
+use mathlib.Core.Path.{ap, _∙_}
+use mathlib.Core.List.{[], _∷_}
 use native.Mathlib.Omega.{arith}
-use Rattle.wire.specs.Answers.{over}
-use Rattle.wire.specs.Bytes.{four}
+use Rattle.wire.specs.Bytes.{four, over}
 use Rattle.wire.specs.Orders.{kind, tuning-bytes, order-bytes, own, tuning-of}
 use Rattle.wire.proofs.Fronts.{over-first, then-part, all-of}
 use Rattle.wire.proofs.order.Order+RawTuning.put.Needs as need

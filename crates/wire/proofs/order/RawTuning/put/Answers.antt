@@ -1,6 +1,5 @@
-use mathlib.Core.Path.{_≡_, refl}
-use mathlib.Core.List.{List, [], _++_}
-use Prim.Native.Nat.{ℕ}
+use mathlib.Core.Path.{refl}
+use mathlib.Core.List.{[], _++_}
 use Rattle.wire.specs.Bytes.{four}
 use Rattle.wire.specs.Orders.{tuning-bytes}
 use Rattle.wire.proofs.Fronts.{then-part, all-of}
