@@ -19,8 +19,8 @@ mod tests;
 // How many bytes an answer is lent.
 pub const ROOM: usize = 64;
 
-// The largest octave.
-const UNITS: u32 = 1_000_000_000;
+// In units.
+const LARGEST_OCTAVE: u32 = 1_000_000_000;
 
 // Answers the order: a refusal's bytes are written to the front of `out`, if that has room; what passes the checks is handed on.
 pub fn answer(order: &[u8], out: &mut [u8]) -> Result<Order<Tuning>, Refused>
@@ -48,7 +48,7 @@ fn checked(bytes: &[u8], room: usize) -> Result<Order<Tuning>, Refused>
         interval,
         notes,
     } = order.tuning();
-    let Some(octave) = within(1, octave, UNITS) else {
+    let Some(octave) = within(1, octave, LARGEST_OCTAVE) else {
         return Err(Refusal::OutOfRange.at(0));
     };
     let Some(interval) = within(0, interval, octave - 1) else {

@@ -1,6 +1,6 @@
 -- An answer's bytes are read as the answer, no other bytes are, and no two answers have the same. Assumes nothing.
 use mathlib.Core.Path.{_≡_, refl, sym, ap, _∙_}
-use mathlib.Core.List.{List, _∷_, _++_}
+use mathlib.Core.List.{List, _++_}
 use Prim.Native.Nat.{ℕ, _+_}
 use native.Mathlib.Omega.{arith}
 use lib.ListN.{length, getD}
@@ -19,7 +19,7 @@ use Rattle.std.specs.Options.{mapped}
 use Rattle.wire.specs.Bytes.{four, number-of, part}
 use Rattle.wire.specs.Answers.{answer-bytes, answer-of, pair-bytes, pair-of, pairs-of, read-answer, read-pairs, read-refused, refusal-number, refusal-of}
 use Rattle.wire.specs.Laws.{Bytes, Fits-pair, Answers-read-back, Only-answers-read, Answers-apart}
-use Rattle.wire.proofs.Numbers.{number-of-four, part-in, four-from, number-at, padded-all}
+use Rattle.wire.proofs.Numbers.{number-of-four, part-in, four-from, number-at, padded-all, same-after, same-join}
 
 pair-back : (p : Pair) → Fits-pair p → p ≡ pair-of (pair-bytes p)
 pair-back p fits = rw (number-of-four (p .first) (fits .0), number-of-four (p .second) (fits .1))
@@ -80,34 +80,28 @@ module _ (c n : ℕ) (p q r : Pair) where
 refused-parts : (r : Option Refusal) (place : ℕ) (s : RefusedAt) → mapped (λ r. record { refusal = r; place = place }) r ≡ Some s → (r ≡ Some (s .refusal)) × (s .place ≡ place)
 refused-parts r place s h = grind (arith, tells)
 
-same-parts : {k k′ : ℕ} {a a′ b b′ : List ℕ} → k ≡ k′ → a ≡ a′ → b ≡ b′ → k ∷ (a ++ b) ≡ k′ ∷ (a′ ++ b′)
-same-parts e f g = cc
-
-same-pairs : {a a′ b b′ : List ℕ} → a ≡ a′ → b ≡ b′ → a ++ b ≡ a′ ++ b′
-same-pairs e f = cc
-
 module _ (bs : List ℕ) (small : Bytes bs) where
   pair-at : (i : ℕ) {p : Pair} → p ≡ pair-of (part i 8 bs) → pair-bytes p ≡ four-from (i + 0) bs ++ four-from (i + 4) bs
   pair-at i e =
-      same-pairs (number-at bs small (i + 0) (ap (λ q. q .first) e ∙ ap number-of (part-in bs i 0 8 (omega arith))))
+      same-join (number-at bs small (i + 0) (ap (λ q. q .first) e ∙ ap number-of (part-in bs i 0 8 (omega arith))))
       (number-at bs small (i + 4) (ap (λ q. q .second) e ∙ ap number-of (part-in bs i 4 4 (omega arith))))
 
   listed-only : (ps : Pairs) → 3 ≡ getD bs 0 0 → Pairs-parts (number-of (part 1 4 bs)) (length bs) (pair-of (part 5 8 bs)) (pair-of (part 13 8 bs)) (pair-of (part 21 8 bs)) ps → answer-bytes (Listed ps) ≡ bs
-  listed-only Zero k parts = same-parts k (number-at bs small 1 (parts .0)) refl ∙ padded-all 5 bs (parts .1)
-  listed-only (One a) k parts = same-parts k (number-at bs small 1 (parts .0)) (pair-at 5 (parts .2)) ∙ padded-all 13 bs (parts .1)
-  listed-only (Two a b) k parts = same-parts k (number-at bs small 1 (parts .0)) (same-pairs (pair-at 5 (parts .2)) (pair-at 13 (parts .3))) ∙ padded-all 21 bs (parts .1)
-  listed-only (Three a b c) k parts = same-parts k (number-at bs small 1 (parts .0)) (same-pairs (pair-at 5 (parts .2)) (same-pairs (pair-at 13 (parts .3)) (pair-at 21 (parts .4)))) ∙ padded-all 29 bs (parts .1)
+  listed-only Zero k parts = same-after k (same-join (number-at bs small 1 (parts .0)) refl) ∙ padded-all 5 bs (parts .1)
+  listed-only (One a) k parts = same-after k (same-join (number-at bs small 1 (parts .0)) (pair-at 5 (parts .2))) ∙ padded-all 13 bs (parts .1)
+  listed-only (Two a b) k parts = same-after k (same-join (number-at bs small 1 (parts .0)) (same-join (pair-at 5 (parts .2)) (pair-at 13 (parts .3)))) ∙ padded-all 21 bs (parts .1)
+  listed-only (Three a b c) k parts = same-after k (same-join (number-at bs small 1 (parts .0)) (same-join (pair-at 5 (parts .2)) (same-join (pair-at 13 (parts .3)) (pair-at 21 (parts .4))))) ∙ padded-all 29 bs (parts .1)
 
   refused-only : (s : RefusedAt) → 0 ≡ getD bs 0 0 → length bs ≡ 9 → read-refused bs ≡ Some s → answer-bytes (Refused s) ≡ bs
   refused-only s k long h =
       let parts = refused-parts (refusal-of (number-of (part 1 4 bs))) (number-of (part 5 4 bs)) s h in
       let refusal = refusal-is (number-of (part 1 4 bs)) (s .refusal) (parts .0) in
-      same-parts k (number-at bs small 1 refusal) (number-at bs small 5 (parts .1)) ∙ padded-all 9 bs long
+      same-after k (same-join (number-at bs small 1 refusal) (number-at bs small 5 (parts .1))) ∙ padded-all 9 bs long
 
   only : (a : Answer) → Answer-parts (getD bs 0 0) (length bs) (read-refused bs) (number-of (part 1 4 bs)) (pair-of (part 1 8 bs)) (read-pairs bs) a → answer-bytes a ≡ bs
   only (Refused s) parts = refused-only s (parts .0) (parts .1) (parts .2)
-  only (Number y) parts = same-parts (parts .0) (number-at bs small 1 (parts .2)) refl ∙ padded-all 5 bs (parts .1)
-  only (Numbers q) parts = same-parts (parts .0) (pair-at 1 (parts .2)) refl ∙ padded-all 9 bs (parts .1)
+  only (Number y) parts = same-after (parts .0) (number-at bs small 1 (parts .2)) ∙ padded-all 5 bs (parts .1)
+  only (Numbers q) parts = same-after (parts .0) (pair-at 1 (parts .2)) ∙ padded-all 9 bs (parts .1)
   only (Listed qs) parts = listed-only qs (parts .0) (pairs-parts (number-of (part 1 4 bs)) (length bs) (pair-of (part 5 8 bs)) (pair-of (part 13 8 bs)) (pair-of (part 21 8 bs)) qs (parts .1))
 
 pub only-answers-read : Only-answers-read

@@ -13,7 +13,7 @@ use Rattle.wire.specs.declared.order.RawTuning.{RawTuning}
 use Rattle.wire.specs.declared.order.Order.{Order}
 use Rattle.wire.specs.declared.order.Order.the-variants.{Place, Next, At, Sizes, Whole}
 use Rattle.wire.specs.Bytes.{number-of, part}
-use Rattle.wire.specs.Laws.{Bytes, Fits-order, Orders-cease}
+use Rattle.wire.specs.Laws.{Begins, Bytes, Orders-cease}
 use Rattle.wire.specs.Orders.{kind, misfit, tuning-in, order-bytes, order-of, own-misfit, read-order}
 use Rattle.wire.proofs.Numbers.{four-from, number-from, take-padded}
 use Rattle.wire.proofs.OrderLaws.{order-stands, stands-bytes, stands-fits}
@@ -68,7 +68,7 @@ module _ (bs : List ℕ) where
 
 module _ (bs cs : List ℕ) (small : Bytes cs) where
   -- the order whose numbers stand in cs begins as bs does, as far as cs does
-  begins : (p : ℕ) → p ≤ 17 → p ≤ length bs → ((i : ℕ) → i < p → getD cs i 0 ≡ getD bs i 0) → getD cs 0 0 ≤ 4 → (getD cs 0 0 ≡ 3 → number-of (part 13 4 cs) ≡ 0) → (o : Order RawTuning) × Fits-order o × (take p (order-bytes o) ≡ take p bs)
+  begins : (p : ℕ) → p ≤ 17 → p ≤ length bs → ((i : ℕ) → i < p → getD cs i 0 ≡ getD bs i 0) → getD cs 0 0 ≤ 4 → (getD cs 0 0 ≡ 3 → number-of (part 13 4 cs) ≡ 0) → Begins bs p
   begins p few within same low own =
       let there = order-there (getD cs 0 0) (number-of (part 13 4 cs)) (tuning-in (part 1 12 cs)) low own in
       let stands = order-stands cs (there .0) (there .1) in
@@ -83,11 +83,8 @@ module _ (bs : List ℕ) where
   same-front i h = getD-take 13 bs i 0 h
 
 module _ (bs : List ℕ) (small : Bytes bs) where
-  abbrev Begun : ℕ → Type 0
-  Begun p = (o : Order RawTuning) × Fits-order o × (take p (order-bytes o) ≡ take p bs)
-
-  sizes-begun : getD bs 0 0 ≡ 3 → Begun (misfit bs)
-  sizes-begun three =
+  sizes-begins : getD bs 0 0 ≡ 3 → Begins bs (misfit bs)
+  sizes-begins three =
       begins bs (take 13 bs) bytes (misfit bs) (bounds bs .1) (bounds bs .0) same (omega (arith, same-front bs 0 (omega arith))) (λ _. number-from (take 13 bs) 13 ∙ none)
     where
       bytes : Bytes (take 13 bs)
@@ -99,12 +96,12 @@ module _ (bs : List ℕ) (small : Bytes bs) where
       none : number-of (four-from 13 (take 13 bs)) ≡ 0
       none = omega (arith, without-own bs 13 (omega arith), without-own bs 14 (omega arith), without-own bs 15 (omega arith), without-own bs 16 (omega arith))
 
-  before : Begun (misfit bs)
+  before : Begins bs (misfit bs)
   before = by (cases-lt 4 (getD bs 0 0)) (cases-eq (getD bs 0 0) 3)
     where
-      by : (4 < getD bs 0 0) ⊎ (getD bs 0 0 ≤ 4) → (getD bs 0 0 ≡ 3) ⊎ (getD bs 0 0 ≡ 3 → ⊥) → Begun (misfit bs)
+      by : (4 < getD bs 0 0) ⊎ (getD bs 0 0 ≤ 4) → (getD bs 0 0 ≡ 3) ⊎ (getD bs 0 0 ≡ 3 → ⊥) → Begins bs (misfit bs)
       by (inl high) which = rw (bounds bs .2 high) (Sizes (record { octave = 0; interval = 0; notes = 0 }), (omega arith, omega arith, omega arith, omega arith), refl)
-      by (inr low) (inl three) = sizes-begun three
+      by (inr low) (inl three) = sizes-begins three
       by (inr low) (inr other) = begins bs bs small (misfit bs) (bounds bs .1) (bounds bs .0) (λ i h. refl) low (λ three. absurd (other three))
 
   module _ (o : Order RawTuning) (same : take (suc (misfit bs)) (order-bytes o) ≡ take (suc (misfit bs)) bs) where

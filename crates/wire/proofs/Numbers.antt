@@ -1,11 +1,11 @@
 -- A number and its four bytes. Assumes nothing.
 use mathlib.Core.Path.{_≡_, refl, sym, ap, _∙_}
-use mathlib.Core.List.{List, [], _∷_}
+use mathlib.Core.List.{List, [], _∷_, _++_}
 use Prim.Native.Nat.{ℕ, zero, suc, _+_, _*_, _/_, _%_, _^_, _≤_, _<_}
 use native.Mathlib.Nat.{add-zero, div-div-eq-div-mul, mod-eq-of-lt, not-suc-le-zero, zero-add}
 use native.Mathlib.Omega.{arith}
 use lib.ListN.{length, getD, take, drop}
-use Rattle.std.proofs.shelf.Lists.{drop-drop, drop-take, ext-getD, getD-drop, getD-take, length-take-le, take-take}
+use Rattle.std.proofs.shelf.Lists.{drop-drop, drop-take, ext-getD, getD-drop, getD-take, length-take-le, take-all, take-take}
 use Rattle.wire.specs.Bytes.{four, number-of, part}
 use Rattle.wire.specs.Laws.{Bytes}
 
@@ -71,11 +71,6 @@ getD-padded i zero j bs h = absurd (not-suc-le-zero h)
 getD-padded i (suc n) zero bs h = rw add-zero
 getD-padded i (suc n) (suc j) bs h = getD-padded (i + 1) n j bs (omega arith) ∙ ap (λ m. getD bs m 0) (omega arith)
 
-pub padded-all : (n : ℕ) (bs : List ℕ) → length bs ≡ n → padded 0 n bs ≡ bs
-padded-all n bs long =
-    ext-getD 0 (padded 0 n bs) bs (length-padded 0 n bs ∙ sym long)
-    (λ i h. getD-padded 0 n i bs (omega (arith, length-padded 0 n bs)) ∙ ap (λ m. getD bs m 0) (zero-add i))
-
 -- as far as two lists have the same bytes
 pub take-padded : (bs cs : List ℕ) (n p : ℕ) → p ≤ n → p ≤ length bs → ((i : ℕ) → i < p → getD cs i 0 ≡ getD bs i 0) → take p (padded 0 n cs) ≡ take p bs
 take-padded bs cs n p few within same =
@@ -88,3 +83,16 @@ take-padded bs cs n p few within same =
     at i h =
         getD-take p (padded 0 n cs) i 0 h ∙ getD-padded 0 n i cs (omega arith)
         ∙ ap (λ m. getD cs m 0) (zero-add i) ∙ same i h ∙ sym (getD-take p bs i 0 h)
+
+pub padded-all : (n : ℕ) (bs : List ℕ) → length bs ≡ n → padded 0 n bs ≡ bs
+padded-all n bs long =
+    sym (take-all n (padded 0 n bs) (omega (arith, length-padded 0 n bs)))
+    ∙ take-padded bs bs n n (omega arith) (omega arith) (λ i h. refl)
+    ∙ take-all n bs (omega arith)
+
+-- lists that are joined of the same parts
+pub same-join : {a a′ b b′ : List ℕ} → a ≡ a′ → b ≡ b′ → a ++ b ≡ a′ ++ b′
+same-join e f = cc
+
+pub same-after : {k k′ : ℕ} {a a′ : List ℕ} → k ≡ k′ → a ≡ a′ → k ∷ a ≡ k′ ∷ a′
+same-after e f = cc

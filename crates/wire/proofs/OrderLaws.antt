@@ -1,6 +1,6 @@
 -- An order's bytes are read as the order, no other bytes are, and no two orders have the same. Assumes nothing.
 use mathlib.Core.Path.{_≡_, sym, ap, _∙_}
-use mathlib.Core.List.{List, _∷_, _++_}
+use mathlib.Core.List.{List}
 use Prim.Native.Nat.{ℕ}
 use native.Mathlib.Omega.{arith}
 use lib.ListN.{length, getD}
@@ -12,7 +12,7 @@ use Rattle.wire.specs.declared.order.Order.the-variants.{Place, Next, At, Size
 use Rattle.wire.specs.Bytes.{number-of, part}
 use Rattle.wire.specs.Laws.{Bytes, Fits-order, Orders-read-back, Only-orders-read, Orders-apart}
 use Rattle.wire.specs.Orders.{kind, tuning-bytes, tuning-in, order-bytes, order-of, own, read-order, tuning-of}
-use Rattle.wire.proofs.Numbers.{number-of-four, part-in, number-at, number-fits, padded, padded-all}
+use Rattle.wire.proofs.Numbers.{number-of-four, part-in, number-at, number-fits, padded, padded-all, same-after, same-join}
 
 tuning-back : (o : Order RawTuning) → Fits-order o → tuning-of o ≡ tuning-in (tuning-bytes (tuning-of o))
 tuning-back o fits = rw (number-of-four (tuning-of o .octave) (fits .0), number-of-four (tuning-of o .interval) (fits .1), number-of-four (tuning-of o .notes) (fits .2))
@@ -54,17 +54,13 @@ order-stands bs o h =
       own-is = parts .2;
     }
 
-same-parts : {k k′ : ℕ} {a a′ b b′ c c′ d d′ : List ℕ} → k ≡ k′ → a ≡ a′ → b ≡ b′ → c ≡ c′ → d ≡ d′ → k ∷ ((a ++ (b ++ c)) ++ d) ≡ k′ ∷ ((a′ ++ (b′ ++ c′)) ++ d′)
-same-parts e f g h i = cc
-
 module _ (bs : List ℕ) (small : Bytes bs) {o : Order RawTuning} (stands : Stands bs o) where
   pub stands-bytes : order-bytes o ≡ padded 0 17 bs
   stands-bytes =
-      same-parts (stands .kind-is)
-      (number-at bs small 1 (stands .octave-is))
-      (number-at bs small 5 (stands .interval-is))
-      (number-at bs small 9 (stands .notes-is))
-      (number-at bs small 13 (stands .own-is))
+      let octave = number-at bs small 1 (stands .octave-is) in
+      let interval = number-at bs small 5 (stands .interval-is) in
+      let notes = number-at bs small 9 (stands .notes-is) in
+      same-after (stands .kind-is) (same-join (same-join octave (same-join interval notes)) (number-at bs small 13 (stands .own-is)))
 
   pub stands-fits : Fits-order o
   stands-fits = (

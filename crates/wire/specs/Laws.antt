@@ -35,10 +35,14 @@ Only-orders-read = (bs : List ℕ) → Bytes bs → (o : Order RawTuning) → re
 abbrev pub Orders-apart : Type 0
 Orders-apart = (o p : Order RawTuning) → Fits-order o → Fits-order p → order-bytes o ≡ order-bytes p → o ≡ p
 
+-- some order begins with the first p of these bytes
+abbrev pub Begins : List ℕ → ℕ → Type 0
+Begins bs p = (o : Order RawTuning) × Fits-order o × (take p (order-bytes o) ≡ take p bs)
+
 -- where bytes cease to be an order's: some order begins with those before this place, and none with one more
 pub record Ceases (bs : List ℕ) (p : ℕ) : Type 0 where
   pub within : p ≤ length bs
-  pub before : (o : Order RawTuning) × Fits-order o × (take p (order-bytes o) ≡ take p bs)
+  pub before : Begins bs p
   pub past : (o : Order RawTuning) → take (suc p) (order-bytes o) ≡ take (suc p) bs → ⊥
 
 -- what is no order ceases to be one at its misfit
