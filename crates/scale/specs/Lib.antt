@@ -1,3 +1,5 @@
 pub mod Notes
 pub mod Promise
 pub mod Range
+pub mod Basis
+pub mod Laws

@@ -1,0 +1,16 @@
+pub mod Octaves
+pub mod Basis
+pub mod Growth
+pub mod Ways
+pub mod Rules
+pub mod Loops
+pub mod Steps
+pub mod Sums
+pub mod Sizes
+pub mod OneMore
+pub mod Mirror
+pub mod Whole
+pub mod Walks
+pub mod Counts
+pub mod Places
+pub mod Theorems

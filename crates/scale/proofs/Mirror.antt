@@ -1,0 +1,83 @@
+-- The interval down in place of up: the two notes of the basis change places, and so do u and d. The sizes of steps, and how many there are of each, stay.
+use mathlib.Core.Path.{_≡_, sym, ap, _∙_}
+use mathlib.Core.Bool.{Bool, true, false}
+use mathlib.Core.List.{List}
+use Prim.Native.Nat.{ℕ, suc, _+_, _*_, _-_, _≤_, _<_}
+use native.Mathlib.Nat.{le-dest, add-comm, le-of-mul-le-mul-right, lt-of-mul-lt-mul-right}
+use native.Mathlib.Omega.{arith}
+use lib.Dec.{ltb}
+use Rattle.scale.specs.Notes.{Tuning, so-large, sizes}
+use Rattle.scale.specs.Basis.{Basis, Basis-of}
+use Rattle.scale.proofs.Basis.{octave-some, fits}
+use Rattle.scale.proofs.Rules.{Order, earlier, same, later, order}
+use Rattle.scale.proofs.Sizes.{in-order, sizes-are, so-many, one-size, so-many-of-one}
+
+module _ {N g : ℕ} (f : ℕ) (mirror : g + f ≡ N) (B : Basis N g) where
+  open Basis B using (a, b, u, d, p, q)
+
+  -- note b, which goes round q times up, goes round b - q times down
+  pub turns-below : (x : ℕ) × (q + x ≡ b)
+  turns-below =
+      let less : q < suc b = lt-of-mul-lt-mul-right N {m = q} {n = suc b} (omega (arith, B .below, B .some-u, fits B, ap (λ (x : ℕ). b * x) mirror)) in
+      le-dest (omega arith)
+
+  pub turns-above : (x : ℕ) × (p + x ≡ a)
+  turns-above = le-dest (le-of-mul-le-mul-right {m = p} {n = a} {k = N} (omega (arith, B .above, ap (λ (x : ℕ). a * x) mirror)) (octave-some B))
+
+  unfoldable pub mirrored : Basis N f
+  mirrored =
+      record {
+        a = b;
+        b = a;
+        u = d;
+        d = u;
+        p = turns-below .0;
+        q = turns-above .0;
+        above = omega (arith, B .below, ap (λ (x : ℕ). b * x) mirror, ap (λ (x : ℕ). x * N) (turns-below .1));
+        below = omega (arith, B .above, ap (λ (x : ℕ). a * x) mirror, ap (λ (x : ℕ). x * N) (turns-above .1));
+        whole = omega (arith, B .whole);
+        some-a = B .some-b;
+        some-b = B .some-a;
+        some-u = B .some-d;
+        some-d = B .some-u;
+      }
+
+-- the same tuning with the interval down
+abbrev pub down : Tuning → Tuning
+down t = record { octave = t .octave; interval = t .octave - t .interval; notes = t .notes }
+
+mirrored-order : (u d : ℕ) (both : Bool) → in-order d u both ≡ in-order u d both
+unfolding in-order
+mirrored-order u d both = go (add-comm d u) (order u d)
+  where
+    go : d + u ≡ u + d → Order u d → in-order d u both ≡ in-order u d both
+    go sum (earlier i e) = grind arith
+    go sum (same e) = grind arith
+    go sum (later i e) = grind arith
+
+module _ {t : Tuning} (small : t .interval < t .octave) (B : Basis-of t) where
+  open Basis (B .basis) using (a, b, u, d)
+
+  pub basis-down : Basis-of (down t)
+  unfolding mirrored
+  basis-down =
+      record { basis = mirrored (t .octave - t .interval) (omega arith) (B .basis); a-there = B .b-there; b-there = B .a-there; reach = omega (arith, B .reach) }
+
+  pub sizes-down : sizes (down t) ≡ sizes t
+  unfolding mirrored basis-down
+  sizes-down =
+      let sum : ltb (t .notes) (b + a) ≡ ltb (t .notes) (a + b) = ap (ltb (t .notes)) (add-comm b a) in
+      sizes-are basis-down ∙ ap (in-order d u) sum ∙ mirrored-order u d (ltb (t .notes) (a + b)) ∙ sym (sizes-are B)
+
+  pub so-many-down : (s : ℕ) → so-large (down t) s (t .notes) ≡ so-large t s (t .notes)
+  unfolding mirrored basis-down
+  so-many-down s =
+      let sum : d + u ≡ u + d = add-comm d u in
+      let more : b + a - t .notes ≡ a + b - t .notes = omega arith in
+      omega (arith, so-many B s, rw (sum, more) at (so-many basis-down s))
+
+pub sizes-down-alone : (t : Tuning) → 0 < t .octave → t .notes ≡ 1 → sizes (down t) ≡ sizes t
+sizes-down-alone t pos one = one-size (down t) pos one ∙ sym (one-size t pos one)
+
+pub so-many-down-alone : (t : Tuning) (s : ℕ) → 0 < t .octave → t .notes ≡ 1 → so-large (down t) s (t .notes) ≡ so-large t s (t .notes)
+so-many-down-alone t s pos one = so-many-of-one (down t) s pos one ∙ sym (so-many-of-one t s pos one)

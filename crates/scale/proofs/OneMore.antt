@@ -1,0 +1,112 @@
+-- One note more cuts one step in two, and leaves every other as it was: the basis stays, or one of its notes comes nearer.
+use mathlib.Core.Path.{_≡_, ap}
+use mathlib.Core.Logic.{_≢_}
+use Prim.Native.Nat.{ℕ, suc, _+_, _*_, _-_, _≤_, _<_}
+use native.Mathlib.Omega.{arith}
+use Rattle.scale.specs.Notes.{Tuning, step}
+use Rattle.scale.specs.Promise.{with-notes}
+use Rattle.scale.specs.Basis.{Basis, Basis-of, All-different}
+use Rattle.scale.proofs.Growth.{Grows, stays, nears-above, nears-below, ends, grows, basis-stays, basis-above, basis-below, not-all-different}
+use Rattle.scale.proofs.Steps.{Goes, Rule, above, both, below, goes-above, goes-both, goes-below, rule, alone}
+
+abbrev one-more : Tuning → Tuning
+one-more t = with-notes t (suc (t .notes))
+
+abbrev pub Cut : Tuning → Type 0
+Cut t =
+    (k : ℕ) × (k < t .notes) × (step (one-more t) k + step (one-more t) (t .notes) ≡ step t k)
+    × ((j : ℕ) → j < t .notes → j ≢ k → step (one-more t) j ≡ step t j)
+
+module _ {t : Tuning} (B : Basis-of t) where
+  open Basis (B .basis) using (a, b, u, d)
+
+  -- u + d is cut into u and d
+  cut-stays : t .notes < a + b → Cut t
+  cut-stays more = (t .notes - a, omega (arith, B .a-there, B .basis .some-a), cut, λ j there other. go j there other (rule B j))
+    where
+      C : Basis-of (one-more t)
+      C = basis-stays B more
+
+      cut : step (one-more t) (t .notes - a) + step (one-more t) (t .notes) ≡ step t (t .notes - a)
+      cut =
+          let k : ℕ = t .notes - a in
+          omega (
+            arith,
+            goes-above C k (omega (arith, B .a-there)) .far,
+            goes-below C (t .notes) (omega arith) (omega (arith, B .b-there)) .far,
+            goes-both B k (omega (arith, B .a-there)) (omega (arith, B .a-there)) .far,
+          )
+
+      go : (j : ℕ) → j < t .notes → j ≢ t .notes - a → Rule B j → step (one-more t) j ≡ step t j
+      go j there other (above l) = omega (arith, goes-above C j (omega arith) .far, goes-above B j l .far)
+      go j there other (both far near) = omega (arith, goes-both C j (omega (arith, B .a-there)) near .far, goes-both B j far near .far)
+      go j there other (below l) = omega (arith, goes-below C j (omega arith) l .far, goes-below B j there l .far)
+
+  -- u is cut into what is left of it and d
+  cut-above : t .notes ≡ a + b → (v : ℕ) → 1 * d + v ≡ u → 0 < v → Cut t
+  cut-above all v left some = (0, omega (arith, B .a-there), cut, λ j there other. go j there other (rule B j))
+    where
+      C : Basis-of (one-more t)
+      C = basis-above B all v left some
+
+      cut : step (one-more t) 0 + step (one-more t) (t .notes) ≡ step t 0
+      cut =
+          omega (
+            arith,
+            goes-above C 0 (omega arith) .far,
+            goes-below C (t .notes) (omega arith) (omega (arith, B .b-there)) .far,
+            goes-above B 0 (omega (arith, B .a-there)) .far,
+          )
+
+      go : (j : ℕ) → j < t .notes → j ≢ 0 → Rule B j → step (one-more t) j ≡ step t j
+      go j there other (above l) = omega (arith, goes-both C j (omega arith) (omega arith) .far, goes-above B j l .far)
+      go j there other (both far near) = absurd (omega arith)
+      go j there other (below l) = omega (arith, goes-below C j (omega arith) l .far, goes-below B j there l .far)
+
+  -- d is cut into u and what is left of it
+  cut-below : t .notes ≡ a + b → (v : ℕ) → 1 * u + v ≡ d → 0 < v → Cut t
+  cut-below all v left some = (b, B .b-there, cut, λ j there other. go j there other (rule B j))
+    where
+      C : Basis-of (one-more t)
+      C = basis-below B all v left some
+
+      cut : step (one-more t) b + step (one-more t) (t .notes) ≡ step t b
+      cut =
+          omega (
+            arith,
+            goes-above C b (omega arith) .far,
+            goes-below C (t .notes) (omega arith) (omega arith) .far,
+            goes-below B b (B .b-there) (omega arith) .far,
+          )
+
+      go : (j : ℕ) → j < t .notes → j ≢ b → Rule B j → step (one-more t) j ≡ step t j
+      go j there other (above l) = omega (arith, goes-above C j (omega arith) .far, goes-above B j l .far)
+      go j there other (both far near) = absurd (omega arith)
+      go j there other (below l) = omega (arith, goes-both C j (omega arith) (omega arith) .far, goes-below B j there l .far)
+
+  pub cut : All-different (one-more t) → Cut t
+  cut differ = go (grows B)
+    where
+      go : Grows B → Cut t
+      go (stays more) = cut-stays more
+      go (nears-above all v left some) = cut-above all v left some
+      go (nears-below all v left some) = cut-below all v left some
+      go (ends all same) = absurd (not-all-different (B .basis) same (suc (t .notes)) (omega arith) differ)
+
+-- the octave is cut into u and d
+pub cut-alone : (t : Tuning) → 0 < t .octave → t .notes ≡ 1 → Basis-of (one-more t) → Cut t
+cut-alone t pos one C = (0, omega arith, halves, λ j there other. absurd (omega arith))
+  where
+    halves : step (one-more t) 0 + step (one-more t) (t .notes) ≡ step t 0
+    halves =
+        let a-one : C .basis .a ≡ 1 = omega (arith, C .a-there, C .basis .some-a) in
+        let b-one : C .basis .b ≡ 1 = omega (arith, C .b-there, C .basis .some-b) in
+        omega (
+          arith,
+          goes-above C 0 (omega arith) .far,
+          goes-below C (t .notes) (omega arith) (omega arith) .far,
+          alone t pos one .far,
+          C .basis .whole,
+          ap (λ (x : ℕ). x * C .basis .d) a-one,
+          ap (λ (x : ℕ). x * C .basis .u) b-one,
+        )

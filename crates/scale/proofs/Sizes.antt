@@ -1,0 +1,117 @@
+-- The sizes of steps: u, d, and u + d if there are fewer than a + b notes.
+use mathlib.Core.Path.{_≡_, refl, sym, ap, _∙_}
+use mathlib.Core.Logic.{_≢_}
+use mathlib.Core.Bool.{Bool, true, false}
+use mathlib.Core.List.{List, [], _∷_}
+use Prim.Native.Nat.{ℕ, zero, suc, _+_, _*_, _-_, _≤_, _<_}
+use native.Mathlib.Nat.{le-dest, add-zero}
+use native.Mathlib.Omega.{arith}
+use lib.Dec.{ltb, eqb}
+use lib.ListN.{length, getD}
+use Rattle.std.proofs.shelf.Tests.{lt-ltb, le-ltb, eq-eqb, ne-eqb}
+use Rattle.scale.specs.Notes.{pick, Tuning, so-large, put-in, sizes}
+use Rattle.scale.specs.Basis.{Basis, Basis-of}
+use Rattle.scale.proofs.Rules.{Order, earlier, same, later, order}
+use Rattle.scale.proofs.Sums.{times, over-all, over-one, sizes-over, so-large-over, sum-all}
+
+-- two sizes, and both together if there is such a step: smallest first, and one of equal ones
+unfoldable pub in-order : ℕ → ℕ → Bool → List ℕ
+in-order u d both =
+    let rest : List ℕ = pick both ((u + d) ∷ []) [] in
+    pick (ltb u d) (u ∷ (d ∷ rest)) (pick (eqb u d) (u ∷ rest) (d ∷ (u ∷ rest)))
+
+module _ (u d : ℕ) (both : Bool) where
+  pub in-order-less : u < d → in-order u d both ≡ u ∷ (d ∷ pick both ((u + d) ∷ []) [])
+  unfolding in-order
+  in-order-less h = rw (lt-ltb u d h)
+
+  pub in-order-same : u ≡ d → in-order u d both ≡ u ∷ pick both ((u + d) ∷ []) []
+  unfolding in-order
+  in-order-same h = rw (le-ltb u d (omega arith), eq-eqb u d h)
+
+  pub in-order-more : d < u → in-order u d both ≡ d ∷ (u ∷ pick both ((u + d) ∷ []) [])
+  unfolding in-order
+  in-order-more h = let other : u ≢ d = omega arith in rw (le-ltb u d (omega arith), ne-eqb u d other)
+
+-- three at most, and the largest of three is the other two together
+abbrev pub Three : List ℕ → Type 0
+Three xs = (length xs ≤ 3) × (length xs ≡ 3 → getD xs 2 0 ≡ getD xs 0 0 + getD xs 1 0)
+
+pub three-in-order : (u d : ℕ) (both : Bool) → Three (in-order u d both)
+three-in-order u d both = go both (order u d)
+  where
+    go : (both : Bool) → Order u d → Three (in-order u d both)
+    go true (earlier i e) = rw (in-order-less u d true (omega arith)) (omega arith, λ h. refl)
+    go false (earlier i e) = rw (in-order-less u d false (omega arith)) (omega arith, λ h. absurd (omega arith))
+    go true (same e) = rw (in-order-same u d true e) (omega arith, λ h. absurd (omega arith))
+    go false (same e) = rw (in-order-same u d false e) (omega arith, λ h. absurd (omega arith))
+    go true (later i e) = rw (in-order-more u d true (omega arith)) (omega arith, λ h. omega arith)
+    go false (later i e) = rw (in-order-more u d false (omega arith)) (omega arith, λ h. absurd (omega arith))
+
+put-again : (s : ℕ) (xs : List ℕ) → put-in s (put-in s xs) ≡ put-in s xs
+unfolding put-in
+put-again s [] = grind arith
+put-again s (x ∷ xs) = again (put-again s xs)
+  where
+    again : put-in s (put-in s xs) ≡ put-in s xs → put-in s (put-in s (x ∷ xs)) ≡ put-in s (x ∷ xs)
+    again ih = grind arith
+
+put-often : (i s : ℕ) (xs : List ℕ) → 0 < i → times i (put-in s) xs ≡ put-in s xs
+unfolding times
+put-often zero s xs some = absurd (omega arith)
+put-often (suc zero) s xs some = refl
+put-often (suc (suc i)) s xs some = ap (put-in s) (put-often (suc i) s xs (omega arith)) ∙ put-again s xs
+
+put-three : (u d : ℕ) → 0 < u → 0 < d → put-in d (put-in (u + d) (put-in u [])) ≡ in-order u d true
+unfolding put-in in-order
+put-three u d us ds = ap (put-in d) last ∙ go (order u d)
+  where
+    last : put-in (u + d) (u ∷ []) ≡ u ∷ ((u + d) ∷ [])
+    last = grind arith
+
+    go : Order u d → put-in d (u ∷ ((u + d) ∷ [])) ≡ in-order u d true
+    go (earlier i e) = grind arith
+    go (same e) = grind arith
+    go (later i e) = grind arith
+
+put-two : (u d : ℕ) → put-in d (put-in u []) ≡ in-order u d false
+unfolding put-in in-order
+put-two u d = grind arith
+
+-- a number of steps of size x count if that is the size asked for
+many-if : (x s m : ℕ) → m * pick (eqb x s) 1 0 ≡ pick (eqb x s) m 0
+many-if x s m = grind arith
+
+module _ {t : Tuning} (B : Basis-of t) where
+  open Basis (B .basis) using (a, b, u, d)
+
+  pub sizes-are : sizes t ≡ in-order u d (ltb (t .notes) (a + b))
+  unfolding times
+  sizes-are =
+      sizes-over t (t .notes)
+      ∙ over-all B put-in []
+      ∙ put-often (t .notes - b) d (times (a + b - t .notes) (put-in (u + d)) (times (t .notes - a) (put-in u) [])) (omega (arith, B .b-there))
+      ∙ ap (λ (l : List ℕ). put-in d (times (a + b - t .notes) (put-in (u + d)) l)) (put-often (t .notes - a) u [] (omega (arith, B .a-there)))
+      ∙ go (a + b - t .notes) (omega (arith, B .reach))
+    where
+      go : (w : ℕ) → t .notes + w ≡ a + b → put-in d (times w (put-in (u + d)) (put-in u [])) ≡ in-order u d (ltb (t .notes) (a + b))
+      go zero e = put-two u d ∙ ap (in-order u d) (sym (le-ltb (t .notes) (a + b) (omega arith)))
+      go (suc w) e =
+          ap (put-in d) (put-often (suc w) (u + d) (put-in u []) (omega arith))
+          ∙ put-three u d (B .basis .some-u) (B .basis .some-d)
+          ∙ ap (in-order u d) (sym (lt-ltb (t .notes) (a + b) (omega arith)))
+
+  -- how many there are of a size
+  pub so-many : (s : ℕ) →
+      so-large t s (t .notes) ≡ pick (eqb u s) (t .notes - a) 0 + pick (eqb (u + d) s) (a + b - t .notes) 0 + pick (eqb d s) (t .notes - b) 0
+  so-many s =
+      omega (arith, so-large-over t s (t .notes), sum-all B (λ (x : ℕ). pick (eqb x s) 1 0), many-if u s (t .notes - a), many-if (u + d) s (a + b - t .notes), many-if d s (t .notes - b))
+
+-- with one note there is one step
+pub one-size : (t : Tuning) → 0 < t .octave → t .notes ≡ 1 → sizes t ≡ t .octave ∷ []
+unfolding put-in
+one-size t pos one = sizes-over t (t .notes) ∙ over-one t pos one put-in []
+
+pub so-many-of-one : (t : Tuning) (s : ℕ) → 0 < t .octave → t .notes ≡ 1 → so-large t s (t .notes) ≡ pick (eqb (t .octave) s) 1 0
+so-many-of-one t s pos one =
+    so-large-over t s (t .notes) ∙ over-one t pos one (λ (x l : ℕ). pick (eqb x s) 1 0 + l) 0 ∙ add-zero (pick (eqb (t .octave) s) 1 0)

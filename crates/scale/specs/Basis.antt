@@ -1,0 +1,33 @@
+-- Two notes by whose numbers all others go: one a little above note 0, and one a little below it.
+-- Assumes nothing: these are definitions.
+use mathlib.Core.Path.{_≡_}
+use mathlib.Core.Logic.{_≢_}
+use Prim.Native.Nat.{ℕ, _+_, _*_, _≤_, _<_}
+use Rattle.scale.specs.Notes.{Tuning, note}
+
+-- In an octave of N units, with an interval of g: note a is u above note 0 once p octaves are left out, note b is d below it once q octaves are filled
+-- up, and a times d and b times u are an octave.
+pub record Basis (N g : ℕ) : Type 0 where
+  pub a : ℕ
+  pub b : ℕ
+  pub u : ℕ
+  pub d : ℕ
+  pub p : ℕ
+  pub q : ℕ
+  pub above : a * g ≡ p * N + u
+  pub below : b * g + d ≡ q * N
+  pub whole : a * d + b * u ≡ N
+  pub some-a : 0 < a
+  pub some-b : 0 < b
+  pub some-u : 0 < u
+  pub some-d : 0 < d
+
+-- The basis of a tuning: both of its notes are there, and their numbers add up to at least as many as there are notes.
+pub record Basis-of (t : Tuning) : Type 0 where
+  pub basis : Basis (t .octave) (t .interval)
+  pub a-there : basis .a < t .notes
+  pub b-there : basis .b < t .notes
+  pub reach : t .notes ≤ basis .a + basis .b
+
+abbrev pub All-different : Tuning → Type 0
+All-different t = (j k : ℕ) → j < k → k < t .notes → note t j ≢ note t k
