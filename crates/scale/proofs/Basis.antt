@@ -1,30 +1,29 @@
 -- No note of the first a + b is nearer to note 0 than the two notes of a basis, and so they are all different.
 use mathlib.Core.Path.{_≡_, sym, ap}
-use mathlib.Core.Logic.{_≢_}
+use mathlib.Core.Logic.{inl, inr, _≢_}
 use Prim.Native.Nat.{ℕ, suc, _+_, _*_, _-_, _/_, _%_, _≤_, _<_}
 use native.Mathlib.Nat.{le-dest, eq-of-mul-eq-mul-right, mod-lt, mod-add-div', mul-le-mul-left, mul-le-mul-right, mul-pos}
-use native.Mathlib.Decide.{decLe}
 use native.Mathlib.Omega.{arith}
+use Rattle.std.proofs.shelf.Tests.{cases-lt}
 use Rattle.scale.specs.Basis.{Basis}
-use Rattle.scale.proofs.Octaves.{octaves-above, some-octaves}
+use Rattle.scale.proofs.Octaves.{octaves-above, same-below, some-octaves}
+use Rattle.scale.proofs.Ways.{Way, way-from-zero}
 
--- Both gaps at once: j stands for a note's number, h for how far it is above note 0, and x and the last equation say that it is. The gap below note 0
--- is the same with a and b, and u and d, exchanged.
-nearest : (N a b u d j h x m k : ℕ) → 0 < N → a * d + b * u ≡ N → j * d + h * b ≡ x * N → 0 < x → j * u + m * N ≡ a * h + k * N → j < a + b → u ≤ h
-nearest N a b u d j h x m k pos whole ex some em small = go (decLe (j * u) (a * h))
-  where
-    go : Dec (j * u ≤ a * h) → u ≤ h
-    go (yes le) =
-        let z : (z : ℕ) × (a * h ≡ j * u + z * N) = octaves-above N (a * h) (j * u) k m pos (sym em) le in
-        let e : h * N ≡ (u * x + z .0 * d) * N = omega (arith, ap (λ (v : ℕ). h * v) whole, ap (λ (v : ℕ). v * d) (z .1), ap (λ (v : ℕ). v * u) ex) in
-        let f : h ≡ u * x + z .0 * d = eq-of-mul-eq-mul-right N pos h (u * x + z .0 * d) e in
-        omega (arith, mul-le-mul-left u some)
-    go (no gt) =
-        let y : (y : ℕ) × (j * u ≡ a * h + y * N) = octaves-above N (j * u) (a * h) m k pos em (omega arith) in
-        let ys : 0 < y .0 = some-octaves N (y .0) (j * u - a * h) (omega arith) (omega arith) in
-        let e : j * N ≡ (a * x + b * y .0) * N = omega (arith, ap (λ (v : ℕ). j * v) whole, ap (λ (v : ℕ). v * b) (y .1), ap (λ (v : ℕ). v * a) ex) in
-        let f : j ≡ a * x + b * y .0 = eq-of-mul-eq-mul-right N pos j (a * x + b * y .0) e in
-        omega (arith, mul-le-mul-left a some, mul-le-mul-left b ys)
+-- What both gaps come to, in numbers alone: for the one above note 0, h is how far note i is above it, and for the one below it a and b, and u and d,
+-- are exchanged. Either h is u times x and some more, or i is a times x and b times y, with x and y above 0.
+nearest : (N a b u d i h x m k : ℕ) → 0 < N → a * d + b * u ≡ N → i * d + h * b ≡ x * N → 0 < x → i * u + m * N ≡ a * h + k * N → i < a + b → u ≤ h
+nearest N a b u d i h x m k pos whole ex some apart first =
+    elim (cases-lt (a * h) (i * u)) [
+      | inr few ↦
+          let z = octaves-above N (a * h) (i * u) k m pos (sym apart) few in
+          let e : h * N ≡ (u * x + z .0 * d) * N = omega (arith, ap (λ (v : ℕ). h * v) whole, ap (λ (v : ℕ). v * d) (z .1), ap (λ (v : ℕ). v * u) ex) in
+          omega (arith, eq-of-mul-eq-mul-right N pos h (u * x + z .0 * d) e, mul-le-mul-left u some)
+      | inl many ↦
+          let y = octaves-above N (i * u) (a * h) m k pos apart (omega arith) in
+          let more : 0 < y .0 = some-octaves N (y .0) (i * u - a * h) (omega arith) (omega (arith, y .1)) in
+          let e : i * N ≡ (a * x + b * y .0) * N = omega (arith, ap (λ (v : ℕ). i * v) whole, ap (λ (v : ℕ). v * b) (y .1), ap (λ (v : ℕ). v * a) ex) in
+          omega (arith, eq-of-mul-eq-mul-right N pos i (a * x + b * y .0) e, mul-le-mul-left a some, mul-le-mul-left b more)
+    ]
 
 module _ {N g : ℕ} (B : Basis N g) where
   open Basis B using (a, b, u, d, p, q)
@@ -32,50 +31,75 @@ module _ {N g : ℕ} (B : Basis N g) where
   pub octave-some : 0 < N
   octave-some = omega (arith, B .whole, mul-pos (B .some-a) (B .some-d))
 
-  -- a note that is h above note 0 is not in the gap above it
-  pub gap-above : (i h m k : ℕ) → 0 < i → i < a + b → i * g + m * N ≡ h + k * N → u ≤ h
-  gap-above i h m k some small e =
-      let x : (x : ℕ) × (i * d + h * b ≡ 0 + x * N) =
-      octaves-above N (i * d + h * b) 0 (b * k) (i * q + b * m) octave-some (omega (arith, ap (λ (v : ℕ). b * v) e, ap (λ (v : ℕ). i * v) (B .below))) (omega arith) in
-      let xs : 0 < x .0 = some-octaves N (x .0) (i * d + h * b) (omega (arith, mul-pos some (B .some-d))) (omega arith) in
-      nearest N a b u d i h (x .0) (i * p + a * m) (a * k) octave-some (B .whole) (omega arith) xs (omega (arith, ap (λ (v : ℕ). a * v) e, ap (λ (v : ℕ). i * v) (B .above))) small
-
-  -- nor is one that is h below it in the gap below
-  pub gap-below : (i h m k : ℕ) → 0 < i → i < a + b → i * g + h + m * N ≡ k * N → d ≤ h
-  gap-below i h m k some small e =
-      let x : (x : ℕ) × (i * u + h * a ≡ 0 + x * N) =
-      octaves-above N (i * u + h * a) 0 (i * p + a * m) (a * k) octave-some (omega (arith, ap (λ (v : ℕ). a * v) e, ap (λ (v : ℕ). i * v) (B .above))) (omega arith) in
-      let xs : 0 < x .0 = some-octaves N (x .0) (i * u + h * a) (omega (arith, mul-pos some (B .some-u))) (omega arith) in
-      nearest N b a d u i h (x .0) (b * k) (i * q + b * m) octave-some (omega (arith, B .whole)) (omega arith) xs (omega (arith, ap (λ (v : ℕ). b * v) e, ap (λ (v : ℕ). i * v) (B .below))) (omega arith)
-
-  -- the same by heights
-  pub no-note-nearer : (j : ℕ) → 0 < j → j < a + b → (u ≤ j * g % N) × (j * g % N + d ≤ N)
-  no-note-nearer j some small =
-      let height = mod-add-div' (j * g) N in
-      let low = mod-lt (j * g) octave-some in (
-        gap-above j (j * g % N) 0 (j * g / N) some small (omega arith),
-        omega (arith, gap-below j (N - j * g % N) 0 (suc (j * g / N)) some small (omega arith)),
-      )
-
-  pub first-different : (i j : ℕ) → i < j → j < a + b → i * g % N ≢ j * g % N
-  first-different i j less small same =
-      let m : (m : ℕ) × (suc i + m ≡ j) = le-dest less in
-      omega (
-        arith,
-        B .some-u,
-        gap-above (suc (m .0)) 0 (i * g / N) (j * g / N) (omega arith) (omega arith)
-            (omega (arith, mod-add-div' (i * g) N, mod-add-div' (j * g) N, ap (λ (v : ℕ). v * g) (m .1))),
-      )
-
-  -- u and d together fit into the octave, and only for a = b = 1 they fill it
+  -- u and d together fit into the octave, and fill it for a = b = 1 alone
   pub fits : u + d ≤ N
   fits = omega (arith, B .whole, mul-le-mul-right d (B .some-a), mul-le-mul-right u (B .some-b))
 
   pub fits-below : 2 < a + b → u + d < N
-  fits-below more = go (decLe 2 a)
-    where
-      go : Dec (2 ≤ a) → u + d < N
-      go (yes two) = omega (arith, B, mul-le-mul-right d two, mul-le-mul-right u (B .some-b))
-      go (no one) =
-          let two : 2 ≤ b = omega arith in
-          omega (arith, B, mul-le-mul-right d (B .some-a), mul-le-mul-right u two)
+  fits-below more =
+      elim (cases-lt 1 a) [
+        | inl two ↦ omega (arith, B, mul-le-mul-right d two, mul-le-mul-right u (B .some-b))
+        | inr one ↦
+            let two : 2 ≤ b = omega arith in
+            omega (arith, B, mul-le-mul-right d (B .some-a), mul-le-mul-right u two)
+      ]
+
+  -- the ways along the chain that it gives from every note
+  pub way-above : (k : ℕ) → Way N g k (k + a) u
+  way-above k = record { c = p; e = 0; is = omega (arith, B .above) }
+
+  pub way-below : (k j : ℕ) → j + b ≡ k → Way N g k j d
+  way-below k j back = record { c = 0; e = q; is = omega (arith, B .below, ap (λ (x : ℕ). x * g) back) }
+
+  pub way-both : (k j : ℕ) → j + b ≡ k + a → Way N g k j (u + d)
+  way-both k j back = record { c = p; e = q; is = omega (arith, B .above, B .below, ap (λ (x : ℕ). x * g) back) }
+
+  -- no note of the first a + b is in the gap above note 0, nor in the gap below it
+  pub gap-above : (i h : ℕ) → 0 < i → i < a + b → Way N g 0 i h → u ≤ h
+  gap-above i h some first W =
+      let up = ap (λ (v : ℕ). a * v) (W .is) in
+      let down = ap (λ (v : ℕ). b * v) (W .is) in
+      let a-up = ap (λ (v : ℕ). i * v) (B .above) in
+      let b-down = ap (λ (v : ℕ). i * v) (B .below) in
+      let x = octaves-above N (i * d + h * b) 0 (b * W .c) (i * q + b * W .e) octave-some (omega arith) (omega arith) in
+      let more = some-octaves N (x .0) (i * d + h * b) (omega (arith, mul-pos some (B .some-d))) (omega (arith, x .1)) in
+      nearest N a b u d i h (x .0) (i * p + a * W .e) (a * W .c) octave-some (B .whole) (omega (arith, x .1)) more (omega arith) first
+
+  pub gap-below : (i h : ℕ) → 0 < i → i < a + b → Way N g i 0 h → d ≤ h
+  gap-below i h some first W =
+      let up = ap (λ (v : ℕ). a * v) (W .is) in
+      let down = ap (λ (v : ℕ). b * v) (W .is) in
+      let a-up = ap (λ (v : ℕ). i * v) (B .above) in
+      let b-down = ap (λ (v : ℕ). i * v) (B .below) in
+      let x = octaves-above N (i * u + h * a) 0 (i * p + a * W .c) (a * W .e) octave-some (omega arith) (omega arith) in
+      let more = some-octaves N (x .0) (i * u + h * a) (omega (arith, mul-pos some (B .some-u))) (omega (arith, x .1)) in
+      nearest N b a d u i h (x .0) (b * W .e) (i * q + b * W .c) octave-some (omega (arith, B .whole)) (omega (arith, x .1)) more (omega arith) (omega arith)
+
+  -- the same by heights
+  pub no-note-nearer : (j : ℕ) → 0 < j → j < a + b → (u ≤ j * g % N) × (j * g % N + d ≤ N)
+  no-note-nearer j some first =
+      let height = mod-add-div' (j * g) N in
+      let low = mod-lt (j * g) octave-some in
+      let above = gap-above j (j * g % N) some first record { c = j * g / N; e = 0; is = omega arith } in
+      let below = gap-below j (N - j * g % N) some first record { c = 0; e = suc (j * g / N); is = omega arith } in
+      (above, omega arith)
+
+  pub height-above : a * g % N ≡ u
+  height-above =
+      let height = mod-add-div' (a * g) N in
+      same-below N (a * g % N) u (a * g / N) p (mod-lt (a * g) octave-some) (omega (arith, fits, B .some-d)) (omega (arith, B .above))
+
+  pub height-below : b * g % N + d ≡ N
+  height-below =
+      let height = mod-add-div' (b * g) N in
+      let low : N - d < N = omega (arith, octave-some, B .some-d) in
+      let e = same-below N (b * g % N) (N - d) (suc (b * g / N)) q (mod-lt (b * g) octave-some) low (omega (arith, fits, B .below)) in
+      omega (arith, fits)
+
+  pub first-different : (i j : ℕ) → i < j → j < a + b → i * g % N ≢ j * g % N
+  first-different i j less first same =
+      let m = le-dest less in
+      let from = mod-add-div' (i * g) N in
+      let to = mod-add-div' (j * g) N in
+      let level : Way N g i j 0 = record { c = j * g / N; e = i * g / N; is = omega arith } in
+      omega (arith, B .some-u, gap-above (suc (m .0)) 0 (omega arith) (omega (arith, m .1)) (way-from-zero level (suc (m .0)) (omega (arith, m .1))))

@@ -1,11 +1,11 @@
 -- A basis grows: the farther of its two notes is exchanged for one that is nearer by the other's distance, or by k times that at once. The row of bases
--- that begins with notes 1 and 1 reaches every number of notes, unless it ends at u = d: then note a + b is at note 0's height again.
+-- that begins with note 1 on both sides reaches every number of notes, unless it ends at u = d: then note a + b is as high as note 0.
 use mathlib.Core.Path.{_≡_, sym, ap, _∙_}
-use mathlib.Core.Logic.{_≢_, _↔_}
+use mathlib.Core.Logic.{inl, inr, _≢_, _↔_}
 use Prim.Native.Nat.{ℕ, zero, suc, _+_, _*_, _-_, _%_, _≤_, _<_}
-use native.Mathlib.Nat.{le-dest, zero-mul, one-mul, zero-mod, mod-eq-of-lt, mul-mod-left, add-mul-mod-self-right}
-use native.Mathlib.Decide.{decLe}
+use native.Mathlib.Nat.{zero-mul, zero-mod, add-mul-mod-self-right}
 use native.Mathlib.Omega.{arith}
+use Rattle.std.proofs.shelf.Tests.{cases-lt, cases-order}
 use Rattle.scale.specs.Notes.{Tuning, note}
 use Rattle.scale.specs.Promise.{Taken, with-notes}
 use Rattle.scale.specs.Basis.{Basis, Basis-of, All-different}
@@ -76,13 +76,12 @@ module _ {N g : ℕ} (B : Basis N g) where
 
   -- at u = d the notes repeat after the first a + b
   pub note-again : u ≡ d → (k : ℕ) → (k + (a + b)) * g % N ≡ k * g % N
-  note-again same k = ap (λ (x : ℕ). x % N) round ∙ add-mul-mod-self-right (k * g) (p + q) N
-    where
-      round : (k + (a + b)) * g ≡ k * g + (p + q) * N
-      round = omega (arith, B .above, B .below)
+  note-again same k =
+      let round : (k + (a + b)) * g ≡ k * g + (p + q) * N = omega (arith, B .above, B .below) in
+      ap (λ (x : ℕ). x % N) round ∙ add-mul-mod-self-right (k * g) (p + q) N
 
   pub not-all-different : u ≡ d → (n : ℕ) → a + b < n → ((j k : ℕ) → j < k → k < n → j * g % N ≢ k * g % N) → ⊥
-  not-all-different same n early different = different 0 (0 + (a + b)) (omega (arith, B .some-a)) (omega arith) (sym (note-again same 0))
+  not-all-different same n early differ = differ 0 (0 + (a + b)) (omega (arith, B .some-a)) (omega arith) (sym (note-again same 0))
 
 -- what one note more does to the basis of a tuning
 pub data Grows {t : Tuning} (B : Basis-of t) : Type 0 where
@@ -91,104 +90,113 @@ pub data Grows {t : Tuning} (B : Basis-of t) : Type 0 where
   nears-below : t .notes ≡ B .basis .a + B .basis .b → (v : ℕ) → 1 * B .basis .u + v ≡ B .basis .d → 0 < v → Grows B
   ends : t .notes ≡ B .basis .a + B .basis .b → B .basis .u ≡ B .basis .d → Grows B
 
-pub grows : {t : Tuning} (B : Basis-of t) → Grows B
-grows {t} B = go (decLe (suc (t .notes)) (a + b)) (decLe (suc d) u) (decLe (suc u) d)
-  where
-    open Basis (B .basis) using (a, b, u, d)
-
-    go : Dec (suc (t .notes) ≤ a + b) → Dec (suc d ≤ u) → Dec (suc u ≤ d) → Grows B
-    go (yes more) x y = stays more
-    go (no all) (yes x) y = nears-above (omega (arith, B .reach)) (u - d) (omega arith) (omega arith)
-    go (no all) (no x) (yes y) = nears-below (omega (arith, B .reach)) (d - u) (omega arith) (omega arith)
-    go (no all) (no x) (no y) = ends (omega (arith, B .reach)) (omega arith)
-
 module _ {t : Tuning} (B : Basis-of t) where
   open Basis (B .basis) using (a, b, u, d)
 
+  pub grows : Grows B
+  grows =
+      elim (cases-lt (t .notes) (a + b)) [
+        | inl more ↦ stays more
+        | inr all ↦ elim (cases-order u d) [
+          | inl same ↦ ends (omega (arith, B .reach)) same
+          | inr (inl less) ↦ nears-below (omega (arith, B .reach)) (d - u) (omega arith) (omega arith)
+          | inr (inr more) ↦ nears-above (omega (arith, B .reach)) (u - d) (omega arith) (omega arith)
+        ]
+      ]
+
+  -- the basis for one note more
   abbrev pub basis-stays : t .notes < a + b → Basis-of (with-notes t (suc (t .notes)))
   basis-stays more = record { basis = B .basis; a-there = omega (arith, B .a-there); b-there = omega (arith, B .b-there); reach = more }
 
   abbrev pub basis-above : t .notes ≡ a + b → (v : ℕ) → 1 * d + v ≡ u → 0 < v → Basis-of (with-notes t (suc (t .notes)))
   basis-above all v left some =
-      record { basis = nearer-above (B .basis) 1 v left some; a-there = omega arith; b-there = omega (arith, B .b-there); reach = omega (arith, B .basis .some-b) }
+      record {
+        basis = nearer-above (B .basis) 1 v left some;
+        a-there = omega arith;
+        b-there = omega (arith, B .b-there);
+        reach = omega (arith, B .basis .some-b);
+      }
 
   abbrev pub basis-below : t .notes ≡ a + b → (v : ℕ) → 1 * u + v ≡ d → 0 < v → Basis-of (with-notes t (suc (t .notes)))
   basis-below all v left some =
-      record { basis = nearer-below (B .basis) 1 v left some; a-there = omega (arith, B .a-there); b-there = omega arith; reach = omega (arith, B .basis .some-a) }
+      record {
+        basis = nearer-below (B .basis) 1 v left some;
+        a-there = omega (arith, B .a-there);
+        b-there = omega arith;
+        reach = omega (arith, B .basis .some-a);
+      }
 
 -- how the row ends for a tuning of two notes or more
 pub data Row-end (t : Tuning) : Type 0 where
   reached : Basis-of t → Row-end t
   repeats : (B : Basis (t .octave) (t .interval)) → B .u ≡ B .d → B .a + B .b < t .notes → Row-end t
 
-pub row-end : (t : Tuning) → 0 < t .interval → t .interval < t .octave → (m : ℕ) → Row-end (with-notes t (suc (suc m)))
-row-end t some small zero =
-    reached record { basis = first-basis some small; a-there = omega arith; b-there = omega arith; reach = omega arith }
-row-end t some small (suc m) = go (row-end t some small m)
-  where
-    go : Row-end (with-notes t (suc (suc m))) → Row-end (with-notes t (suc (suc (suc m))))
-    go (repeats B same early) = repeats B same (omega arith)
-    go (reached B) = on (grows B)
-      where
-        on : Grows B → Row-end (with-notes t (suc (suc (suc m))))
-        on (stays more) = reached (basis-stays B more)
-        on (nears-above all v left some) = reached (basis-above B all v left some)
-        on (nears-below all v left some) = reached (basis-below B all v left some)
-        on (ends all same) = repeats (B .basis) same (omega arith)
+module _ (t : Tuning) (some : 0 < t .interval) (small : t .interval < t .octave) where
+  row-of : (n : ℕ) → 1 < n → Row-end (with-notes t n)
+  row-of zero many = absurd (omega arith)
+  row-of (suc zero) many = absurd (omega arith)
+  row-of (suc (suc zero)) many = reached record { basis = first-basis some small; a-there = omega arith; b-there = omega arith; reach = omega arith }
+  row-of (suc (suc (suc m))) many =
+      elim (row-of (suc (suc m)) (omega arith)) [
+        | repeats B same early ↦ repeats B same (omega arith)
+        | reached B ↦ elim (grows B) [
+          | stays more ↦ reached (basis-stays B more)
+          | nears-above all v left some ↦ reached (basis-above B all v left some)
+          | nears-below all v left some ↦ reached (basis-below B all v left some)
+          | ends all same ↦ repeats (B .basis) same (omega arith)
+        ]
+      ]
 
-pub row-ends : (t : Tuning) → 0 < t .interval → t .interval < t .octave → 1 < t .notes → Row-end t
-row-ends t some small many = go (t .notes) many
-  where
-    go : (n : ℕ) → 1 < n → Row-end (with-notes t n)
-    go zero many = absurd (omega arith)
-    go (suc zero) many = absurd (omega arith)
-    go (suc (suc m)) many = row-end t some small m
+  pub row-end : 1 < t .notes → Row-end t
+  row-end many = row-of (t .notes) many
 
 -- the notes of a tuning that has a basis are all different
 pub different : {t : Tuning} → Basis-of t → All-different t
 different B j k less there = first-different (B .basis) j k less (omega (arith, B .reach))
 
+-- so the notes are not all different just if the row ends at u = d before it reaches them
+pub repeats-just-if : (t : Tuning) → 0 < t .interval → t .interval < t .octave → 1 < t .notes →
+    (All-different t → ⊥) ↔ ((B : Basis (t .octave) (t .interval)) × (B .u ≡ B .d) × (B .a + B .b < t .notes))
+repeats-just-if t some small many = (
+  λ repeat. elim (row-end t some small many) [
+    | reached B ↦ absurd (repeat (different B))
+    | repeats B same early ↦ (B, same, early)
+  ],
+  λ end. not-all-different (end .0) (end .1) (t .notes) (end .2),
+)
+
 pub note-zero : (t : Tuning) → note t 0 ≡ 0
 note-zero t = ap (λ (x : ℕ). x % t .octave) (zero-mul (t .interval)) ∙ zero-mod (t .octave)
 
--- without an interval note 1 is at note 0's height
+-- without an interval note 1 is as high as note 0
 pub interval-some : (t : Tuning) → 1 < t .notes → All-different t → 0 < t .interval
-interval-some t many differ = go (decLe 1 (t .interval))
-  where
-    go : Dec (1 ≤ t .interval) → 0 < t .interval
-    go (yes some) = some
-    go (no none) = absurd (differ 0 1 (omega arith) many (ap (λ (x : ℕ). x % t .octave) (omega arith)))
+interval-some t many differ =
+    elim (cases-lt 0 (t .interval)) [
+      | inl some ↦ some
+      | inr none ↦ absurd (differ 0 1 (omega arith) many (ap (λ (x : ℕ). x % t .octave) (omega arith)))
+    ]
 
 -- every tuning of two notes or more, all of them different, has a basis
 pub basis-of : (t : Tuning) → t .interval < t .octave → 1 < t .notes → All-different t → Basis-of t
-basis-of t small many differ = go (row-ends t (interval-some t many differ) small many)
-  where
-    go : Row-end t → Basis-of t
-    go (reached B) = B
-    go (repeats B same early) = absurd (not-all-different B same (t .notes) early differ)
+basis-of t small many differ =
+    elim (row-end t (interval-some t many differ) small many) [
+      | reached B ↦ B
+      | repeats B same early ↦ absurd (not-all-different B same (t .notes) early differ)
+    ]
 
 pub taken-basis : (t : Tuning) → Taken t → 1 < t .notes → Basis-of t
 unfolding Taken
 taken-basis t T many = basis-of t (T .2) many (T .5)
 
--- so a taken tuning has one note, or it has a basis
+-- a taken tuning has one note, or it has a basis
 pub data One-or-more (t : Tuning) : Type 0 where
   one-note : 0 < t .octave → t .notes ≡ 1 → One-or-more t
   has-basis : Basis-of t → One-or-more t
 
 pub one-or-more : (t : Tuning) → Taken t → One-or-more t
 unfolding Taken
-one-or-more t T = go (decLe 2 (t .notes))
-  where
-    go : Dec (2 ≤ t .notes) → One-or-more t
-    go (yes many) = has-basis (taken-basis t T many)
-    go (no few) = one-note (T .0) (omega (arith, T .3))
-
--- the notes are not all different just if the row ends at u = d before it reaches them
-pub repeats-just-if : (t : Tuning) → 0 < t .interval → t .interval < t .octave → 1 < t .notes →
-    (All-different t → ⊥) ↔ ((B : Basis (t .octave) (t .interval)) × (B .u ≡ B .d) × (B .a + B .b < t .notes))
-repeats-just-if t some small many = (λ repeat. go repeat (row-ends t some small many), λ end. not-all-different (end .0) (end .1) (t .notes) (end .2))
-  where
-    go : (All-different t → ⊥) → Row-end t → (B : Basis (t .octave) (t .interval)) × (B .u ≡ B .d) × (B .a + B .b < t .notes)
-    go repeat (reached B) = absurd (repeat (different B))
-    go repeat (repeats B same early) = (B, same, early)
+one-or-more t T =
+    elim (cases-lt 1 (t .notes)) [
+      | inl many ↦ has-basis (taken-basis t T many)
+      | inr few ↦ one-note (T .0) (omega (arith, T .3))
+    ]

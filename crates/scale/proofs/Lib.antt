@@ -13,4 +13,5 @@ pub mod Whole
 pub mod Walks
 pub mod Counts
 pub mod Places
+pub mod Rows
 pub mod Theorems

@@ -3,68 +3,63 @@ use mathlib.Core.Path.{_≡_, refl, sym, ap, _∙_}
 use mathlib.Core.Logic.{_⊎_, inl, inr, _≢_}
 use mathlib.Core.Bool.{_&&_}
 use Prim.Native.Nat.{ℕ, zero, suc, _+_, _%_, _≤_, _<_}
-use native.Mathlib.Decide.{decLe}
 use native.Mathlib.Omega.{arith}
 use lib.Dec.{ltb, eqb}
+use Rattle.std.proofs.shelf.Tests.{cases-eq}
 use Rattle.scale.specs.Notes.{pick, Tuning, note, step, way-up, next-in, next, before-in}
 use Rattle.scale.proofs.Ways.{way}
 
--- the smaller of w and l, but l if there is no way
+-- w if it is a way and shorter than l, else l
 abbrev shorter : ℕ → ℕ → ℕ
 shorter w l = pick (ltb 0 w && ltb w l) w l
 
 shorter-least : (w l s : ℕ) → s ≤ l → (w ≡ 0) ⊎ (s ≤ w) → s ≤ shorter w l
-shorter-least w l s h e = grind arith
+shorter-least w l s least-l least-w = grind arith
 
 shorter-is : (w l s : ℕ) → 0 < s → s ≤ l → (w ≡ 0) ⊎ (s ≤ w) → (l ≡ s) ⊎ (w ≡ s) → shorter w l ≡ s
-shorter-is w l s z h e f = grind arith
+shorter-is w l s some least-l least-w is = grind arith
 
--- s is the least way if no way is shorter, and some way is s or there is none
+-- no way to the first n notes is shorter than s, and one is s unless l is
 pub way-up-is : (t : Tuning) (k s n l : ℕ) → 0 < s → s ≤ l → ((i : ℕ) → i < n → (way t k i ≡ 0) ⊎ (s ≤ way t k i))
     → (l ≡ s) ⊎ ((j : ℕ) × (j < n) × (way t k j ≡ s)) → way-up t k n l ≡ s
 unfolding way-up
-way-up-is t k s zero l z h all (inl e) = e
-way-up-is t k s zero l z h all (inr (j, there, e)) = absurd (omega arith)
-way-up-is t k s (suc n) l z h all some =
-    way-up-is t k s n (shorter (way t k n) l) z (shorter-least (way t k n) l s h here) (λ i there. all i (omega arith)) (go some)
+way-up-is t k s zero l some least all (inl is) = is
+way-up-is t k s zero l some least all (inr (j, there, is)) = absurd (omega arith)
+way-up-is t k s (suc n) l some least all is =
+    way-up-is t k s n (shorter (way t k n) l) some (shorter-least (way t k n) l s least here) (λ i there. all i (omega arith)) (on is)
   where
     here : (way t k n ≡ 0) ⊎ (s ≤ way t k n)
     here = all n (omega arith)
 
-    go : (l ≡ s) ⊎ ((j : ℕ) × (j < suc n) × (way t k j ≡ s)) → (shorter (way t k n) l ≡ s) ⊎ ((j : ℕ) × (j < n) × (way t k j ≡ s))
-    go (inl e) = inl (shorter-is (way t k n) l s z h here (inl e))
-    go (inr (j, there, e)) = at (decLe (suc j) n)
-      where
-        at : Dec (suc j ≤ n) → (shorter (way t k n) l ≡ s) ⊎ ((j : ℕ) × (j < n) × (way t k j ≡ s))
-        at (yes before) = inr (j, before, e)
-        at (no last) =
-            let same : j ≡ n = omega arith in
-            inl (shorter-is (way t k n) l s z h here (inr (ap (λ (v : ℕ). way t k v) (sym same) ∙ e)))
+    on : (l ≡ s) ⊎ ((j : ℕ) × (j < suc n) × (way t k j ≡ s)) → (shorter (way t k n) l ≡ s) ⊎ ((j : ℕ) × (j < n) × (way t k j ≡ s))
+    on (inl is) = inl (shorter-is (way t k n) l s some least here (inl is))
+    on (inr (j, there, is)) =
+        elim (cases-eq j n) [
+          | inl last ↦ inl (shorter-is (way t k n) l s some least here (inr (ap (way t k) (sym last) ∙ is)))
+          | inr before ↦ let ne : j ≢ n = before in inr (j, omega arith, is)
+        ]
 
 -- the last number below n at which f is y: one more than it, or 0
 unfoldable find : (ℕ → ℕ) → ℕ → ℕ → ℕ
 find f y zero = 0
 find f y (suc n) = pick (eqb (f n) y) (suc n) (find f y n)
 
-picked-yes : (x y p q : ℕ) → x ≡ y → pick (eqb x y) p q ≡ p
-picked-yes x y p q e = grind arith
+picked : (x y p q : ℕ) → x ≡ y → pick (eqb x y) p q ≡ p
+picked x y p q same = grind arith
 
-picked-no : (x y p q : ℕ) → x ≢ y → pick (eqb x y) p q ≡ q
-picked-no x y p q e = grind arith
+not-picked : (x y p q : ℕ) → x ≢ y → pick (eqb x y) p q ≡ q
+not-picked x y p q other = grind arith
 
 find-is : (f : ℕ → ℕ) (y j n : ℕ) → j < n → f j ≡ y → ((i : ℕ) → i < n → f i ≡ y → i ≡ j) → find f y n ≡ suc j
 unfolding find
-find-is f y j zero there e one = absurd (omega arith)
-find-is f y j (suc n) there e one = go (decLe (suc j) n) (λ before. find-is f y j n before e (λ i l. one i (omega arith)))
-  where
-    go : Dec (suc j ≤ n) → (suc j ≤ n → find f y n ≡ suc j) → find f y (suc n) ≡ suc j
-    go (yes before) ih = picked-no (f n) y (suc n) (find f y n) (λ h. no-more (one n (omega arith) h)) ∙ ih before
-      where
-        no-more : n ≡ j → ⊥
-        no-more h = omega arith
-    go (no last) ih =
-        let same : n ≡ j = omega arith in
-        picked-yes (f n) y (suc n) (find f y n) (ap f same ∙ e) ∙ ap suc same
+find-is f y j zero there is one = absurd (omega arith)
+find-is f y j (suc n) there is one =
+    elim (cases-eq n j) [
+      | inl last ↦ picked (f n) y (suc n) (find f y n) (ap f last ∙ is) ∙ ap suc last
+      | inr before ↦
+          let ne : n ≢ j = before in
+          not-picked (f n) y (suc n) (find f y n) (λ also. before (one n (omega arith) also)) ∙ find-is f y j n (omega arith) is (λ i less. one i (omega arith))
+    ]
 
 next-finds : (t : Tuning) (k n : ℕ) → next-in t k n ≡ find (note t) ((note t k + step t k) % t .octave) n
 unfolding next-in find
@@ -76,11 +71,11 @@ unfolding before-in find
 before-finds t zero = refl
 before-finds t (suc n) = ap (λ (x : ℕ). pick (eqb (next t n) 1) (suc n) x) (before-finds t n)
 
--- the next note is the one at the height to which the step leads
+-- the next note is the one to whose height the step leads
 pub next-in-is : (t : Tuning) (k j n : ℕ) → j < n → note t j ≡ (note t k + step t k) % t .octave →
     ((i : ℕ) → i < n → note t i ≡ (note t k + step t k) % t .octave → i ≡ j) → next-in t k n ≡ suc j
-next-in-is t k j n there e one = next-finds t k n ∙ find-is (note t) ((note t k + step t k) % t .octave) j n there e one
+next-in-is t k j n there is one = next-finds t k n ∙ find-is (note t) ((note t k + step t k) % t .octave) j n there is one
 
 -- the note before note 0 is the one whose next it is
 pub before-in-is : (t : Tuning) (j n : ℕ) → j < n → next t j ≡ 1 → ((i : ℕ) → i < n → next t i ≡ 1 → i ≡ j) → before-in t n ≡ suc j
-before-in-is t j n there e one = before-finds t n ∙ find-is (next t) 1 j n there e one
+before-in-is t j n there is one = before-finds t n ∙ find-is (next t) 1 j n there is one

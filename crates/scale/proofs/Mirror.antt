@@ -1,15 +1,15 @@
 -- The interval down in place of up: the two notes of the basis change places, and so do u and d. The sizes of steps, and how many there are of each, stay.
 use mathlib.Core.Path.{_≡_, sym, ap, _∙_}
-use mathlib.Core.Bool.{Bool, true, false}
-use mathlib.Core.List.{List}
+use mathlib.Core.Logic.{inl, inr}
+use mathlib.Core.Bool.{Bool}
 use Prim.Native.Nat.{ℕ, suc, _+_, _*_, _-_, _≤_, _<_}
 use native.Mathlib.Nat.{le-dest, add-comm, le-of-mul-le-mul-right, lt-of-mul-lt-mul-right}
 use native.Mathlib.Omega.{arith}
 use lib.Dec.{ltb}
+use Rattle.std.proofs.shelf.Tests.{cases-order}
 use Rattle.scale.specs.Notes.{Tuning, so-large, sizes}
 use Rattle.scale.specs.Basis.{Basis, Basis-of}
 use Rattle.scale.proofs.Basis.{octave-some, fits}
-use Rattle.scale.proofs.Rules.{Order, earlier, same, later, order}
 use Rattle.scale.proofs.Sizes.{in-order, sizes-are, so-many, one-size, so-many-of-one}
 
 module _ {N g : ℕ} (f : ℕ) (mirror : g + f ≡ N) (B : Basis N g) where
@@ -48,12 +48,13 @@ down t = record { octave = t .octave; interval = t .octave - t .interval; notes 
 
 mirrored-order : (u d : ℕ) (both : Bool) → in-order d u both ≡ in-order u d both
 unfolding in-order
-mirrored-order u d both = go (add-comm d u) (order u d)
-  where
-    go : d + u ≡ u + d → Order u d → in-order d u both ≡ in-order u d both
-    go sum (earlier i e) = grind arith
-    go sum (same e) = grind arith
-    go sum (later i e) = grind arith
+mirrored-order u d both =
+    let sum = add-comm d u in
+    elim (cases-order u d) [
+      | inl same ↦ grind arith
+      | inr (inl less) ↦ grind arith
+      | inr (inr more) ↦ grind arith
+    ]
 
 module _ {t : Tuning} (small : t .interval < t .octave) (B : Basis-of t) where
   open Basis (B .basis) using (a, b, u, d)

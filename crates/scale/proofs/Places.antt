@@ -3,15 +3,13 @@ use mathlib.Core.Path.{_≡_, sym, ap, _∙_}
 use mathlib.Core.Logic.{_⊎_, inl, inr, _≢_, _↔_}
 use Prim.Native.Nat.{ℕ, zero, suc, _+_, _-_, _%_, _≤_, _<_}
 use native.Mathlib.Nat.{mod-eq-of-lt, mod-self}
-use native.Mathlib.Decide.{decLe}
 use native.Mathlib.Omega.{arith}
-use Rattle.std.proofs.shelf.Tests.{cases-lt}
+use Rattle.std.proofs.shelf.Tests.{cases-lt, cases-order}
 use Rattle.scale.specs.Notes.{Tuning, note, up-to, place, next}
 use Rattle.scale.specs.Promise.{Taken}
 use Rattle.scale.specs.Basis.{All-different}
 use Rattle.scale.proofs.Growth.{note-zero}
 use Rattle.scale.proofs.Ways.{way, note-low, way-to-higher, way-to-lower}
-use Rattle.scale.proofs.Rules.{Order, earlier, same, later, order}
 use Rattle.scale.proofs.Steps.{Goes, same-note, goes-on}
 use Rattle.scale.proofs.Counts.{at-most, all-counted, one-counted, counts-itself, rises-over, rises-by-one}
 
@@ -29,21 +27,23 @@ module _ (t : Tuning) where
       omega (arith, place-counts j j-there, place-counts k k-there, rises-over t (note t j) (note t k) k (t .notes) k-there less (omega arith))
 
   pub place-by-height : (j k : ℕ) → j < t .notes → k < t .notes → (place t j < place t k) ↔ (note t j < note t k)
-  place-by-height j k j-there k-there = (λ less. go less (order (note t j) (note t k)), place-rises j k j-there k-there)
-    where
-      go : place t j < place t k → Order (note t j) (note t k) → note t j < note t k
-      go less (earlier i e) = omega arith
-      go less (same e) = absurd (omega (arith, ap (λ (h : ℕ). up-to t h (t .notes)) e))
-      go less (later i e) = absurd (omega (arith, place-rises k j k-there j-there (omega arith)))
+  place-by-height j k j-there k-there = (
+    λ less. elim (cases-order (note t j) (note t k)) [
+      | inl level ↦ absurd (omega (arith, ap (λ (h : ℕ). up-to t h (t .notes)) level))
+      | inr (inl lower) ↦ lower
+      | inr (inr higher) ↦ absurd (omega (arith, place-rises k j k-there j-there higher))
+    ],
+    place-rises j k j-there k-there,
+  )
 
 module _ (t : Tuning) (pos : 0 < t .octave) (differ : All-different t) where
   pub same-place : (j k : ℕ) → j < t .notes → k < t .notes → place t j ≡ place t k → j ≡ k
-  same-place j k j-there k-there e = same-note t differ j k j-there k-there (go (order (note t j) (note t k)))
-    where
-      go : Order (note t j) (note t k) → note t j ≡ note t k
-      go (earlier i less) = absurd (omega (arith, place-rises t j k j-there k-there (omega arith)))
-      go (same h) = h
-      go (later i less) = absurd (omega (arith, place-rises t k j k-there j-there (omega arith)))
+  same-place j k j-there k-there same =
+      elim (cases-order (note t j) (note t k)) [
+        | inl level ↦ same-note t differ j k j-there k-there level
+        | inr (inl lower) ↦ absurd (omega (arith, place-rises t j k j-there k-there lower))
+        | inr (inr higher) ↦ absurd (omega (arith, place-rises t k j k-there j-there higher))
+      ]
 
   -- a step that stays within the octave
   step-within : (k s j : ℕ) → k < t .notes → Goes t k s j → note t k + s < t .octave → place t j ≡ suc (place t k)
@@ -107,11 +107,7 @@ module _ (t : Tuning) (pos : 0 < t .octave) (differ : All-different t) where
 pub note-at-place : (t : Tuning) → Taken t → (p : ℕ) → p < t .notes → (k : ℕ) × (k < t .notes) × (place t k ≡ p)
 unfolding Taken
 note-at-place t T zero there = (0, there, place-zero t (T .0) (T .5) there)
-note-at-place t T (suc p) there = go (note-at-place t T p (omega arith))
-  where
-    go : (k : ℕ) × (k < t .notes) × (place t k ≡ p) → (k : ℕ) × (k < t .notes) × (place t k ≡ suc p)
-    go (k, k-there, e) = on (goes-on t T k k-there)
-      where
-        on : (s : ℕ) × (j : ℕ) × Goes t k s j → (k : ℕ) × (k < t .notes) × (place t k ≡ suc p)
-        on (s, j, G) =
-            (j, G .there, place-of-next t (T .0) (T .5) k s j k-there G ∙ ap (λ (x : ℕ). suc x % t .notes) e ∙ mod-eq-of-lt there)
+note-at-place t T (suc p) there =
+    let (k, k-there, at-p) = note-at-place t T p (omega arith) in
+    let (s, j, G) = goes-on t T k k-there in
+    (j, G .there, place-of-next t (T .0) (T .5) k s j k-there G ∙ ap (λ (x : ℕ). suc x % t .notes) at-p ∙ mod-eq-of-lt there)

@@ -1,98 +1,78 @@
--- Three rules: from a note k there is no way to another note that is shorter than u, if note k + a is there; than d, if k is at least b; and than u + d
--- in between. A shorter one would lead to a note in a gap next to note 0.
-use mathlib.Core.Path.{_≡_, ap}
+-- Three rules: from note k no way to another note is shorter than u, if note k + a is there; than d, if k is at least b; and than u + d, if neither
+-- holds. A shorter one, or what is left of one of these, would lead into a gap next to note 0.
+use mathlib.Core.Path.{_≡_, sym}
 use mathlib.Core.Logic.{_⊎_, inl, inr}
-use Prim.Native.Nat.{ℕ, suc, _+_, _*_, _≤_, _<_}
+use Prim.Native.Nat.{ℕ, suc, _+_, _-_, _≤_, _<_}
 use native.Mathlib.Nat.{le-dest}
-use native.Mathlib.Decide.{decLe}
 use native.Mathlib.Omega.{arith}
+use Rattle.std.proofs.shelf.Tests.{cases-lt, cases-order}
 use Rattle.scale.specs.Notes.{Tuning}
 use Rattle.scale.specs.Basis.{Basis, Basis-of}
-use Rattle.scale.proofs.Octaves.{same-below}
-use Rattle.scale.proofs.Basis.{octave-some, gap-above, gap-below}
-use Rattle.scale.proofs.Ways.{Way}
-
--- which of two numbers is larger, and by how much
-pub data Order (j k : ℕ) : Type 0 where
-  earlier : (i : ℕ) → j + suc i ≡ k → Order j k
-  same : j ≡ k → Order j k
-  later : (i : ℕ) → k + suc i ≡ j → Order j k
-
-pub order : (j k : ℕ) → Order j k
-order j k = go (decLe (suc j) k) (decLe (suc k) j)
-  where
-    go : Dec (suc j ≤ k) → Dec (suc k ≤ j) → Order j k
-    go (yes less) y = earlier (le-dest less .0) (omega (arith, le-dest less .1))
-    go (no f) (yes less) = later (le-dest less .0) (omega (arith, le-dest less .1))
-    go (no f) (no h) = same (omega arith)
+use Rattle.scale.proofs.Ways.{Way, way-from-zero, way-to-zero, way-rest, way-first, way-to-same}
+use Rattle.scale.proofs.Basis.{way-above, way-below, gap-above, gap-below}
 
 module _ {t : Tuning} (B : Basis-of t) (k j w : ℕ) (k-there : k < t .notes) (j-there : j < t .notes) (short : w < t .octave) (W : Way (t .octave) (t .interval) k j w) where
-  open Basis (B .basis) using (a, b, u, d, p, q)
+  open Basis (B .basis) using (a, b, u, d)
 
-  -- the way as one between note 0 and a note of the first a + b
-  forth : (i : ℕ) → k + suc i ≡ j → suc i * t .interval + W .e * t .octave ≡ w + W .c * t .octave
-  forth i h = omega (arith, W .is, ap (λ (x : ℕ). x * t .interval) h)
+  -- to a note that comes later in the chain, and to one that comes earlier
+  later-far : k < j → u ≤ w
+  later-far later =
+      let i = le-dest later in
+      gap-above (B .basis) (suc (i .0)) w (omega arith) (omega (arith, i .1, B .reach)) (way-from-zero W (suc (i .0)) (omega (arith, i .1)))
 
-  back : (i : ℕ) → j + suc i ≡ k → suc i * t .interval + w + W .c * t .octave ≡ W .e * t .octave
-  back i h = omega (arith, W .is, ap (λ (x : ℕ). x * t .interval) h)
-
-  none : j ≡ k → w ≡ 0
-  none h = same-below (t .octave) w 0 (W .c) (W .e) short (octave-some (B .basis)) (omega (arith, W .is, ap (λ (x : ℕ). x * t .interval) h))
-
-  forth-long : (i : ℕ) → k + suc i ≡ j → u ≤ w
-  forth-long i h = gap-above (B .basis) (suc i) w (W .e) (W .c) (omega arith) (omega (arith, B .reach)) (forth i h)
-
-  back-long : (i : ℕ) → j + suc i ≡ k → d ≤ w
-  back-long i h = gap-below (B .basis) (suc i) w (W .c) (W .e) (omega arith) (omega (arith, B .reach)) (back i h)
+  earlier-far : j < k → d ≤ w
+  earlier-far earlier =
+      let i = le-dest earlier in
+      gap-below (B .basis) (suc (i .0)) w (omega arith) (omega (arith, i .1, B .reach)) (way-to-zero W (suc (i .0)) (omega (arith, i .1)))
 
   pub rule-above : k + a < t .notes → (w ≡ 0) ⊎ (u ≤ w)
-  rule-above there = go (order j k)
-    where
-      short-back : (i : ℕ) → j + suc i ≡ k → Dec (u ≤ w) → (w ≡ 0) ⊎ (u ≤ w)
-      short-back i h (yes long) = inr long
-      short-back i h (no less) =
-          let v : (v : ℕ) × (w + v ≡ u) = le-dest (omega arith) in
-          let far : u ≤ v .0 =
-          gap-above (B .basis) (suc i + a) (v .0) (W .c) (W .e + p) (omega arith) (omega (arith, B .reach)) (omega (arith, back i h, B .basis .above, v .1)) in
-          inl (omega (arith, v .1))
-
-      go : Order j k → (w ≡ 0) ⊎ (u ≤ w)
-      go (earlier i h) = short-back i h (decLe u w)
-      go (same h) = inl (none h)
-      go (later i h) = inr (forth-long i h)
+  rule-above there =
+      elim (cases-order j k) [
+        | inl same ↦ inl (way-to-same W short (sym same))
+        | inr (inr later) ↦ inr (later-far later)
+        | inr (inl earlier) ↦ elim (cases-lt w u) [
+          | inr far ↦ inr far
+          | inl less ↦
+              let i = le-dest earlier in
+              let rest : Way (t .octave) (t .interval) j (k + a) (u - w) = way-rest W (u - w) (omega arith) (way-above (B .basis) k) in
+              let far = gap-above (B .basis) (suc (i .0) + a) (u - w) (omega arith) (omega (arith, i .1, B .reach)) (way-from-zero rest (suc (i .0) + a) (omega (arith, i .1))) in
+              inl (omega arith)
+        ]
+      ]
 
   pub rule-below : b ≤ k → (w ≡ 0) ⊎ (d ≤ w)
-  rule-below there = go (order j k)
-    where
-      short-forth : (i : ℕ) → k + suc i ≡ j → Dec (d ≤ w) → (w ≡ 0) ⊎ (d ≤ w)
-      short-forth i h (yes long) = inr long
-      short-forth i h (no less) =
-          let v : (v : ℕ) × (w + v ≡ d) = le-dest (omega arith) in
-          let far : d ≤ v .0 =
-          gap-below (B .basis) (suc i + b) (v .0) (W .e) (W .c + q) (omega arith) (omega (arith, B .reach)) (omega (arith, forth i h, B .basis .below, v .1)) in
-          inl (omega (arith, v .1))
-
-      go : Order j k → (w ≡ 0) ⊎ (d ≤ w)
-      go (earlier i h) = inr (back-long i h)
-      go (same h) = inl (none h)
-      go (later i h) = short-forth i h (decLe d w)
+  rule-below there =
+      elim (cases-order j k) [
+        | inl same ↦ inl (way-to-same W short (sym same))
+        | inr (inl earlier) ↦ inr (earlier-far earlier)
+        | inr (inr later) ↦ elim (cases-lt w d) [
+          | inr far ↦ inr far
+          | inl less ↦
+              let i = le-dest later in
+              let rest : Way (t .octave) (t .interval) j (k - b) (d - w) = way-rest W (d - w) (omega arith) (way-below (B .basis) k (k - b) (omega arith)) in
+              let far = gap-below (B .basis) (suc (i .0) + b) (d - w) (omega arith) (omega (arith, i .1, B .reach)) (way-to-zero rest (suc (i .0) + b) (omega (arith, i .1))) in
+              inl (omega arith)
+        ]
+      ]
 
   pub rule-both : t .notes ≤ k + a → k < b → (w ≡ 0) ⊎ (u + d ≤ w)
-  rule-both far near = go (order j k)
-    where
-      go : Order j k → (w ≡ 0) ⊎ (u + d ≤ w)
-      go (earlier i h) =
-          let v : (v : ℕ) × (d + v ≡ w) = le-dest (back-long i h) in
-          let r : (r : ℕ) × (suc i + r ≡ b) = le-dest (omega arith) in
-          let rest : u ≤ v .0 =
-          gap-above (B .basis) (r .0) (v .0) (W .e) (q + W .c) (omega (arith, r .1)) (omega (arith, r .1, B .basis .some-a))
-          (omega (arith, back i h, B .basis .below, v .1, ap (λ (x : ℕ). x * t .interval) (r .1))) in
-          inr (omega (arith, v .1))
-      go (same h) = inl (none h)
-      go (later i h) =
-          let v : (v : ℕ) × (u + v ≡ w) = le-dest (forth-long i h) in
-          let r : (r : ℕ) × (suc i + r ≡ a) = le-dest (omega arith) in
-          let rest : d ≤ v .0 =
-          gap-below (B .basis) (r .0) (v .0) (W .c) (W .e + p) (omega (arith, r .1)) (omega (arith, r .1, B .basis .some-b))
-          (omega (arith, forth i h, B .basis .above, v .1, ap (λ (x : ℕ). x * t .interval) (r .1))) in
-          inr (omega (arith, v .1))
+  rule-both far near =
+      elim (cases-order j k) [
+        | inl same ↦ inl (way-to-same W short (sym same))
+        | inr (inl earlier) ↦
+            let d-far = earlier-far earlier in
+            let i = le-dest earlier in
+            let r : (r : ℕ) × (suc (i .0) + r ≡ b) = le-dest (omega (arith, i .1)) in
+            let down = way-to-zero W (suc (i .0)) (omega (arith, i .1)) in
+            let rest : Way (t .octave) (t .interval) (suc (i .0)) b (w - d) = way-first (way-below (B .basis) b 0 (omega arith)) (w - d) (omega arith) down in
+            let u-far = gap-above (B .basis) (r .0) (w - d) (omega (arith, i .1, r .1)) (omega (arith, r .1, B .basis .some-a)) (way-from-zero rest (r .0) (r .1)) in
+            inr (omega arith)
+        | inr (inr later) ↦
+            let u-far = later-far later in
+            let i = le-dest later in
+            let r : (r : ℕ) × (suc (i .0) + r ≡ a) = le-dest (omega (arith, i .1)) in
+            let up = way-from-zero W (suc (i .0)) (omega (arith, i .1)) in
+            let rest : Way (t .octave) (t .interval) (0 + a) (suc (i .0)) (w - u) = way-rest (way-above (B .basis) 0) (w - u) (omega arith) up in
+            let d-far = gap-below (B .basis) (r .0) (w - u) (omega (arith, i .1, r .1)) (omega (arith, r .1, B .basis .some-b)) (way-to-zero rest (r .0) (omega (arith, r .1))) in
+            inr (omega arith)
+      ]

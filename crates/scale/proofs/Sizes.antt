@@ -1,17 +1,16 @@
 -- The sizes of steps: u, d, and u + d if there are fewer than a + b notes.
 use mathlib.Core.Path.{_≡_, refl, sym, ap, _∙_}
-use mathlib.Core.Logic.{_≢_}
+use mathlib.Core.Logic.{inl, inr, _≢_}
 use mathlib.Core.Bool.{Bool, true, false}
 use mathlib.Core.List.{List, [], _∷_}
 use Prim.Native.Nat.{ℕ, zero, suc, _+_, _*_, _-_, _≤_, _<_}
-use native.Mathlib.Nat.{le-dest, add-zero}
+use native.Mathlib.Nat.{add-zero}
 use native.Mathlib.Omega.{arith}
 use lib.Dec.{ltb, eqb}
 use lib.ListN.{length, getD}
-use Rattle.std.proofs.shelf.Tests.{lt-ltb, le-ltb, eq-eqb, ne-eqb}
+use Rattle.std.proofs.shelf.Tests.{cases-order, lt-ltb, le-ltb, eq-eqb, ne-eqb}
 use Rattle.scale.specs.Notes.{pick, Tuning, so-large, put-in, sizes}
 use Rattle.scale.specs.Basis.{Basis, Basis-of}
-use Rattle.scale.proofs.Rules.{Order, earlier, same, later, order}
 use Rattle.scale.proofs.Sums.{times, over-all, over-one, sizes-over, so-large-over, sum-all}
 
 -- two sizes, and both together if there is such a step: smallest first, and one of equal ones
@@ -23,31 +22,35 @@ in-order u d both =
 module _ (u d : ℕ) (both : Bool) where
   pub in-order-less : u < d → in-order u d both ≡ u ∷ (d ∷ pick both ((u + d) ∷ []) [])
   unfolding in-order
-  in-order-less h = rw (lt-ltb u d h)
+  in-order-less less = rw (lt-ltb u d less)
 
   pub in-order-same : u ≡ d → in-order u d both ≡ u ∷ pick both ((u + d) ∷ []) []
   unfolding in-order
-  in-order-same h = rw (le-ltb u d (omega arith), eq-eqb u d h)
+  in-order-same same = rw (le-ltb u d (omega arith), eq-eqb u d same)
 
   pub in-order-more : d < u → in-order u d both ≡ d ∷ (u ∷ pick both ((u + d) ∷ []) [])
   unfolding in-order
-  in-order-more h = let other : u ≢ d = omega arith in rw (le-ltb u d (omega arith), ne-eqb u d other)
+  in-order-more more = let other : u ≢ d = omega arith in rw (le-ltb u d (omega arith), ne-eqb u d other)
 
 -- three at most, and the largest of three is the other two together
 abbrev pub Three : List ℕ → Type 0
 Three xs = (length xs ≤ 3) × (length xs ≡ 3 → getD xs 2 0 ≡ getD xs 0 0 + getD xs 1 0)
 
 pub three-in-order : (u d : ℕ) (both : Bool) → Three (in-order u d both)
-three-in-order u d both = go both (order u d)
-  where
-    go : (both : Bool) → Order u d → Three (in-order u d both)
-    go true (earlier i e) = rw (in-order-less u d true (omega arith)) (omega arith, λ h. refl)
-    go false (earlier i e) = rw (in-order-less u d false (omega arith)) (omega arith, λ h. absurd (omega arith))
-    go true (same e) = rw (in-order-same u d true e) (omega arith, λ h. absurd (omega arith))
-    go false (same e) = rw (in-order-same u d false e) (omega arith, λ h. absurd (omega arith))
-    go true (later i e) = rw (in-order-more u d true (omega arith)) (omega arith, λ h. omega arith)
-    go false (later i e) = rw (in-order-more u d false (omega arith)) (omega arith, λ h. absurd (omega arith))
+three-in-order u d true =
+    elim (cases-order u d) [
+      | inl same ↦ rw (in-order-same u d true same) (omega arith, λ three. absurd (omega arith))
+      | inr (inl less) ↦ rw (in-order-less u d true less) (omega arith, λ three. refl)
+      | inr (inr more) ↦ rw (in-order-more u d true more) (omega arith, λ three. omega arith)
+    ]
+three-in-order u d false =
+    elim (cases-order u d) [
+      | inl same ↦ rw (in-order-same u d false same) (omega arith, λ three. absurd (omega arith))
+      | inr (inl less) ↦ rw (in-order-less u d false less) (omega arith, λ three. absurd (omega arith))
+      | inr (inr more) ↦ rw (in-order-more u d false more) (omega arith, λ three. absurd (omega arith))
+    ]
 
+-- the loop of the definition: to put a size in again changes nothing
 put-again : (s : ℕ) (xs : List ℕ) → put-in s (put-in s xs) ≡ put-in s xs
 unfolding put-in
 put-again s [] = grind arith
@@ -64,21 +67,20 @@ put-often (suc (suc i)) s xs some = ap (put-in s) (put-often (suc i) s xs (omega
 
 put-three : (u d : ℕ) → 0 < u → 0 < d → put-in d (put-in (u + d) (put-in u [])) ≡ in-order u d true
 unfolding put-in in-order
-put-three u d us ds = ap (put-in d) last ∙ go (order u d)
+put-three u d u-some d-some = ap (put-in d) last ∙ elim (cases-order u d) [
+  | inl same ↦ grind arith
+  | inr (inl less) ↦ grind arith
+  | inr (inr more) ↦ grind arith
+]
   where
     last : put-in (u + d) (u ∷ []) ≡ u ∷ ((u + d) ∷ [])
     last = grind arith
-
-    go : Order u d → put-in d (u ∷ ((u + d) ∷ [])) ≡ in-order u d true
-    go (earlier i e) = grind arith
-    go (same e) = grind arith
-    go (later i e) = grind arith
 
 put-two : (u d : ℕ) → put-in d (put-in u []) ≡ in-order u d false
 unfolding put-in in-order
 put-two u d = grind arith
 
--- a number of steps of size x count if that is the size asked for
+-- m steps of size x count if that is the size asked for
 many-if : (x s m : ℕ) → m * pick (eqb x s) 1 0 ≡ pick (eqb x s) m 0
 many-if x s m = grind arith
 
@@ -105,7 +107,10 @@ module _ {t : Tuning} (B : Basis-of t) where
   pub so-many : (s : ℕ) →
       so-large t s (t .notes) ≡ pick (eqb u s) (t .notes - a) 0 + pick (eqb (u + d) s) (a + b - t .notes) 0 + pick (eqb d s) (t .notes - b) 0
   so-many s =
-      omega (arith, so-large-over t s (t .notes), sum-all B (λ (x : ℕ). pick (eqb x s) 1 0), many-if u s (t .notes - a), many-if (u + d) s (a + b - t .notes), many-if d s (t .notes - b))
+      let up = many-if u s (t .notes - a) in
+      let both = many-if (u + d) s (a + b - t .notes) in
+      let down = many-if d s (t .notes - b) in
+      omega (arith, so-large-over t s (t .notes), sum-all B (λ (x : ℕ). pick (eqb x s) 1 0))
 
 -- with one note there is one step
 pub one-size : (t : Tuning) → 0 < t .octave → t .notes ≡ 1 → sizes t ≡ t .octave ∷ []

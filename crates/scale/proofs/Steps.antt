@@ -3,15 +3,15 @@ use mathlib.Core.Path.{_≡_, refl, sym, ap, _∙_}
 use mathlib.Core.Logic.{_⊎_, inl, inr}
 use Prim.Native.Nat.{ℕ, zero, suc, _+_, _-_, _%_, _≤_, _<_}
 use native.Mathlib.Nat.{mod-self}
-use native.Mathlib.Decide.{decLe}
 use native.Mathlib.Omega.{arith}
+use Rattle.std.proofs.shelf.Tests.{cases-lt, cases-order}
 use Rattle.scale.specs.Notes.{Tuning, note, step, next, before}
 use Rattle.scale.specs.Promise.{Taken}
 use Rattle.scale.specs.Basis.{Basis, Basis-of, All-different}
-use Rattle.scale.proofs.Basis.{octave-some, fits, fits-below}
+use Rattle.scale.proofs.Basis.{octave-some, fits, fits-below, way-above, way-below, way-both}
 use Rattle.scale.proofs.Growth.{different, note-zero, One-or-more, one-note, has-basis, one-or-more}
-use Rattle.scale.proofs.Ways.{Way, way-above, way-below, way-both, way, way-short, way-goes, way-is, way-lands}
-use Rattle.scale.proofs.Rules.{Order, earlier, same, later, order, rule-above, rule-below, rule-both}
+use Rattle.scale.proofs.Ways.{Way, way, way-short, way-goes, way-is, way-lands}
+use Rattle.scale.proofs.Rules.{rule-above, rule-below, rule-both}
 use Rattle.scale.proofs.Loops.{way-up-is, next-in-is, before-in-is}
 
 -- the step from note k is s, and leads to note j
@@ -26,12 +26,12 @@ pub record Goes (t : Tuning) (k s j : ℕ) : Type 0 where
 
 -- notes at the same height are the same
 pub same-note : (t : Tuning) → All-different t → (i j : ℕ) → i < t .notes → j < t .notes → note t i ≡ note t j → i ≡ j
-same-note t differ i j is js e = go (order i j)
-  where
-    go : Order i j → i ≡ j
-    go (earlier m h) = absurd (differ i j (omega arith) js e)
-    go (same h) = h
-    go (later m h) = absurd (differ j i (omega arith) is (sym e))
+same-note t differ i j i-there j-there level =
+    elim (cases-order i j) [
+      | inl same ↦ same
+      | inr (inl less) ↦ absurd (differ i j less j-there level)
+      | inr (inr more) ↦ absurd (differ j i more i-there (sym level))
+    ]
 
 -- a way that no other is shorter than is the step
 goes : (t : Tuning) → All-different t → (k s j : ℕ) → 0 < s → s ≤ t .octave → j < t .notes → (note t k + s) % t .octave ≡ note t j →
@@ -77,9 +77,6 @@ module _ {t : Tuning} (B : Basis-of t) where
       goes-by k d (k - b) (B .basis .some-d) (omega (arith, fits (B .basis), B .basis .some-u)) (omega arith) (way-below (B .basis) k (k - b) (omega arith))
       (λ i w is ws W. rule-below B k i w k-there is ws W far)
 
-  pub next-zero : next t 0 ≡ suc a
-  next-zero = omega (arith, goes-above 0 (omega (arith, B .a-there)) .to)
-
   -- which of the three it is
   pub data Rule (k : ℕ) : Type 0 where
     above : k + a < t .notes → Rule k
@@ -87,21 +84,28 @@ module _ {t : Tuning} (B : Basis-of t) where
     below : b ≤ k → Rule k
 
   pub rule : (k : ℕ) → Rule k
-  rule k = go (decLe (suc (k + a)) (t .notes)) (decLe b k)
-    where
-      go : Dec (suc (k + a) ≤ t .notes) → Dec (b ≤ k) → Rule k
-      go (yes there) y = above there
-      go (no far) (yes there) = below there
-      go (no far) (no near) = both (omega arith) (omega arith)
+  rule k =
+      elim (cases-lt (k + a) (t .notes)) [
+        | inl there ↦ above there
+        | inr far ↦ elim (cases-lt k b) [
+          | inl near ↦ both far near
+          | inr there ↦ below there
+        ]
+      ]
+
+  pub next-zero : next t 0 ≡ suc a
+  next-zero = omega (arith, goes-above 0 (omega (arith, B .a-there)) .to)
 
   pub before-is : before t ≡ suc b
-  before-is =
-      before-in-is t b (t .notes) (B .b-there) (omega (arith, goes-below b (B .b-there) (omega arith) .to)) (λ i is e. go i is e (rule i))
+  before-is = before-in-is t b (t .notes) (B .b-there) (omega (arith, goes-below b (B .b-there) (omega arith) .to)) only
     where
-      go : (i : ℕ) → i < t .notes → next t i ≡ 1 → Rule i → i ≡ b
-      go i is e (above there) = absurd (omega (arith, goes-above i there .to, B .basis .some-a))
-      go i is e (both far near) = absurd (omega (arith, goes-both i far near .to))
-      go i is e (below there) = omega (arith, goes-below i is there .to)
+      only : (i : ℕ) → i < t .notes → next t i ≡ 1 → i ≡ b
+      only i i-there is =
+          elim (rule i) [
+            | above there ↦ absurd (omega (arith, goes-above i there .to, B .basis .some-a))
+            | both far near ↦ absurd (omega (arith, goes-both i far near .to))
+            | below there ↦ omega (arith, goes-below i i-there there .to)
+          ]
 
 -- a note alone: the step is the octave, and leads back to it
 pub alone : (t : Tuning) → 0 < t .octave → t .notes ≡ 1 → Goes t 0 (t .octave) 0
@@ -119,15 +123,12 @@ alone t pos one =
 
 -- every note of a taken tuning has a step and a next note
 pub goes-on : (t : Tuning) → Taken t → (k : ℕ) → k < t .notes → (s : ℕ) × (j : ℕ) × Goes t k s j
-goes-on t T k there = go (one-or-more t T)
-  where
-    by : (B : Basis-of t) → Rule B k → (s : ℕ) × (j : ℕ) × Goes t k s j
-    by B (above l) = (_, _, goes-above B k l)
-    by B (both far near) = (_, _, goes-both B k far near)
-    by B (below l) = (_, _, goes-below B k there l)
-
-    go : One-or-more t → (s : ℕ) × (j : ℕ) × Goes t k s j
-    go (one-note pos one) =
-        let first : 0 ≡ k = omega arith in
-        (t .octave, k, rw first at (alone t pos one))
-    go (has-basis B) = by B (rule B k)
+goes-on t T k k-there =
+    elim (one-or-more t T) [
+      | one-note pos one ↦ (let first : 0 ≡ k = omega arith in (t .octave, k, rw first at (alone t pos one)))
+      | has-basis B ↦ elim (rule B k) [
+        | above there ↦ (_, _, goes-above B k there)
+        | both far near ↦ (_, _, goes-both B k far near)
+        | below there ↦ (_, _, goes-below B k k-there there)
+      ]
+    ]

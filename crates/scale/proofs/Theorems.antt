@@ -1,17 +1,17 @@
--- Every statement of specs/Promise.antt and specs/Laws.antt, proved: the table of contents of this folder.
+-- The statements of specs/ and where each is proved: the table of contents of this folder.
 use mathlib.Core.Path.{_≡_, refl, ap, _∙_}
 use mathlib.Core.Logic.{_⊎_, inl, inr}
 use mathlib.Core.Bool.{true, false}
 use mathlib.Core.List.{[], _∷_}
 use Prim.Native.Nat.{ℕ, suc, _+_, _-_, _%_, _≤_, _<_}
-use native.Mathlib.Decide.{decLe}
 use native.Mathlib.Omega.{arith}
 use lib.Dec.{ltb}
-use Rattle.std.proofs.shelf.Tests.{le-ltb}
+use Rattle.std.proofs.shelf.Tests.{cases-lt, le-ltb}
 use Rattle.scale.specs.Notes.{Tuning, place, next, before, so-large, sizes}
 use Rattle.scale.specs.Promise.{Taken, with-notes, Three-at-most, Go-round, By-rules, One-more, Downwards, Spans, span, all-steps}
 use Rattle.scale.specs.Basis.{Basis-of, All-different}
-use Rattle.scale.specs.Laws.{No-note-nearer, Basis-exists, Basis-told, Basis-grows, Repeats-just-if, Steps-by-basis, Steps-counted, Whole-just-if, First-whole, Next-place, Places-by-height, Places-differ, Places-filled}
+use Rattle.scale.specs.Laws.{No-note-nearer, Basis-exists, Basis-told, Basis-grows, Interval-needed, Repeats-just-if, Steps-by-basis, Steps-counted, Whole-just-if, First-whole, Next-place, Places-by-height, Places-differ, Places-filled}
+use Rattle.scale.specs.Scales.{Five-fifths, Seven-fifths, Seven-in-twelve}
 use Rattle.scale.proofs.Basis as basis
 use Rattle.scale.proofs.Growth.{One-or-more, one-note, has-basis, one-or-more}
 use Rattle.scale.proofs.Growth as growth
@@ -24,24 +24,25 @@ use Rattle.scale.proofs.Mirror as mirror
 use Rattle.scale.proofs.Whole as whole
 use Rattle.scale.proofs.Walks as walks
 use Rattle.scale.proofs.Places as places
+use Rattle.scale.proofs.Rows as rows
 
 -- The six statements
 
 pub three-at-most : Three-at-most
 unfolding Three-at-most
-three-at-most t T = go (one-or-more t T)
-  where
-    go : One-or-more t → sizes-of.Three (sizes t)
-    go (one-note pos one) = rw (sizes-of.one-size t pos one) (omega arith, λ h. absurd (omega arith))
-    go (has-basis B) = rw (sizes-of.sizes-are B) (sizes-of.three-in-order (B .basis .u) (B .basis .d) (ltb (t .notes) (B .basis .a + B .basis .b)))
+three-at-most t T =
+    elim (one-or-more t T) [
+      | one-note pos one ↦ rw (sizes-of.one-size t pos one) (omega arith, λ three. absurd (omega arith))
+      | has-basis B ↦ rw (sizes-of.sizes-are B) (sizes-of.three-in-order (B .basis .u) (B .basis .d) (ltb (t .notes) (B .basis .a + B .basis .b)))
+    ]
 
 pub go-round : Go-round
 unfolding Go-round
-go-round t T = go (one-or-more t T)
-  where
-    go : One-or-more t → all-steps t (t .notes) ≡ t .octave
-    go (one-note pos one) = sums.step-alone t pos one
-    go (has-basis B) = sums.steps-together B
+go-round t T =
+    elim (one-or-more t T) [
+      | one-note pos one ↦ sums.step-alone t pos one
+      | has-basis B ↦ sums.steps-together B
+    ]
 
 pub by-rules : By-rules
 unfolding By-rules
@@ -59,19 +60,19 @@ by-rules t k T many there =
 
 pub one-more : One-more
 unfolding One-more Taken
-one-more t T some = go (decLe 2 (t .notes))
-  where
-    go : Dec (2 ≤ t .notes) → cuts.Cut t
-    go (yes many) = cuts.cut (growth.basis-of t (T .2) many (λ j k less there. T .5 j k less (omega arith))) (T .5)
-    go (no few) = cuts.cut-alone t (T .0) (omega arith) (growth.basis-of (with-notes t (suc (t .notes))) (T .2) (omega arith) (T .5))
+one-more t T some =
+    elim (cases-lt 1 (t .notes)) [
+      | inl many ↦ cuts.cut (growth.basis-of t (T .2) many (λ j k less there. T .5 j k less (omega arith))) (T .5)
+      | inr few ↦ cuts.cut-alone t (T .0) (omega arith) (growth.basis-of (with-notes t (suc (t .notes))) (T .2) (omega arith) (T .5))
+    ]
 
 pub downwards : Downwards
 unfolding Downwards Taken
-downwards t s T some = go (one-or-more t T)
-  where
-    go : One-or-more t → (sizes (mirror.down t) ≡ sizes t) × (so-large (mirror.down t) s (t .notes) ≡ so-large t s (t .notes))
-    go (one-note pos one) = (mirror.sizes-down-alone t pos one, mirror.so-many-down-alone t s pos one)
-    go (has-basis B) = (mirror.sizes-down (T .2) B, mirror.so-many-down (T .2) B s)
+downwards t s T some =
+    elim (one-or-more t T) [
+      | one-note pos one ↦ (mirror.sizes-down-alone t pos one, mirror.so-many-down-alone t s pos one)
+      | has-basis B ↦ (mirror.sizes-down (T .2) B, mirror.so-many-down (T .2) B s)
+    ]
 
 pub spans : Spans
 unfolding Spans
@@ -98,6 +99,9 @@ basis-grows N g B k v some = (
   (λ left. (growth.nearer-above B k v left some, refl, refl, refl, refl)),
   (λ left. (growth.nearer-below B k v left some, refl, refl, refl, refl)),
 )
+
+pub interval-needed : Interval-needed
+interval-needed = growth.interval-some
 
 pub repeats-just-if : Repeats-just-if
 repeats-just-if = growth.repeats-just-if
@@ -126,12 +130,10 @@ first-whole t B = (B .reach, whole.whole-there B, whole.none-before B)
 
 pub next-place : Next-place
 unfolding Taken
-next-place t k T there = go (steps.goes-on t T k there)
-  where
-    go : (s : ℕ) × (j : ℕ) × steps.Goes t k s j → (0 < next t k) × (next t k ≤ t .notes) × (place t (next t k - 1) ≡ suc (place t k) % t .notes)
-    go (s, j, G) =
-        let e : next t k - 1 ≡ j = omega (arith, G .to) in
-        (omega (arith, G .to), omega (arith, G .to, G .there), ap (place t) e ∙ places.place-of-next t (T .0) (T .5) k s j there G)
+next-place t k T there =
+    let (s, j, G) = steps.goes-on t T k there in
+    let e : next t k - 1 ≡ j = omega (arith, G .to) in
+    (omega (arith, G .to), omega (arith, G .to, G .there), ap (place t) e ∙ places.place-of-next t (T .0) (T .5) k s j there G)
 
 pub places-by-height : Places-by-height
 places-by-height t j k T = places.place-by-height t j k
@@ -142,3 +144,17 @@ places-differ t j k T = places.same-place t (T .0) (T .5) j k
 
 pub places-filled : Places-filled
 places-filled t T = (places.place-there t, places.note-at-place t T)
+
+-- Scales written out
+
+pub five-fifths : Five-fifths
+unfolding sizes-of.in-order
+five-fifths = rows.written-out _ _ _ refl
+
+pub seven-fifths : Seven-fifths
+unfolding sizes-of.in-order
+seven-fifths = rows.written-out _ _ _ refl
+
+pub seven-in-twelve : Seven-in-twelve
+unfolding sizes-of.in-order
+seven-in-twelve = rows.written-out _ _ _ refl

@@ -2,17 +2,16 @@
 -- times. For two notes this number differs by one at most, and so do the spans, by one step of the one size in place of one of the other.
 use mathlib.Core.Path.{_≡_, ap}
 use mathlib.Core.Logic.{_⊎_, inl, inr}
-use mathlib.Core.Bool.{true, false}
+use mathlib.Core.Bool.{false}
 use mathlib.Core.List.{List}
 use Prim.Native.Nat.{ℕ, zero, suc, _+_, _*_, _-_, _≤_, _<_}
 use native.Mathlib.Nat.{lt-of-mul-lt-mul-right}
-use native.Mathlib.Decide.{decLe}
 use native.Mathlib.Omega.{arith}
 use lib.ListN.{length, getD}
-use Rattle.scale.specs.Notes.{Tuning, step, next}
+use Rattle.std.proofs.shelf.Tests.{cases-lt, cases-order}
+use Rattle.scale.specs.Notes.{Tuning, next}
 use Rattle.scale.specs.Promise.{span}
 use Rattle.scale.specs.Basis.{Basis, Basis-of}
-use Rattle.scale.proofs.Rules.{Order, earlier, same, later, order}
 use Rattle.scale.proofs.Steps.{Goes, goes-above, goes-below}
 use Rattle.scale.proofs.Sizes.{in-order, in-order-less, in-order-same, in-order-more}
 
@@ -37,70 +36,80 @@ module _ {t : Tuning} (B : Basis-of t) where
     walk : (m k : ℕ) → k < t .notes → Walk k m
     unfolding span
     walk zero k there = record { c = 0; x = 0; r = k; r-there = there; ends = omega arith; all = omega arith; sum = omega arith }
-    walk (suc m) k there = go (decLe b k) (λ j j-there. walk m j j-there)
-      where
-        go : Dec (b ≤ k) → ((j : ℕ) → j < t .notes → Walk j m) → Walk k (suc m)
-        go (yes l) on =
-            let G = goes-below B k there l in
-            let W = on (k - b) (omega arith) in
-            let e : next t k - 1 ≡ k - b = omega (arith, G .to) in
-            record {
-              c = suc (W .c);
-              x = W .x;
-              r = W .r;
-              r-there = W .r-there;
-              ends = omega (arith, W .ends);
-              all = omega (arith, W .all);
-              sum = omega (arith, G .far, W .sum, ap (λ (v : ℕ). span t v m) e);
-            }
-        go (no l) on =
-            let G = goes-above B k (omega arith) in
-            let W = on (k + a) (omega arith) in
-            let e : next t k - 1 ≡ k + a = omega (arith, G .to) in
-            record {
-              c = W .c;
-              x = suc (W .x);
-              r = W .r;
-              r-there = W .r-there;
-              ends = omega (arith, W .ends);
-              all = omega (arith, W .all);
-              sum = omega (arith, G .far, W .sum, ap (λ (v : ℕ). span t v m) e);
-            }
+    walk (suc m) k there =
+        elim (cases-lt k b) [
+          | inl near ↦
+              let G = goes-above B k (omega arith) in
+              let W = walk m (k + a) (omega arith) in
+              let e : next t k - 1 ≡ k + a = omega (arith, G .to) in
+              record {
+                c = W .c;
+                x = suc (W .x);
+                r = W .r;
+                r-there = W .r-there;
+                ends = omega (arith, W .ends);
+                all = omega (arith, W .all);
+                sum = omega (arith, G .far, W .sum, ap (λ (v : ℕ). span t v m) e);
+              }
+          | inr far ↦
+              let G = goes-below B k there far in
+              let W = walk m (k - b) (omega arith) in
+              let e : next t k - 1 ≡ k - b = omega (arith, G .to) in
+              record {
+                c = suc (W .c);
+                x = W .x;
+                r = W .r;
+                r-there = W .r-there;
+                ends = omega (arith, W .ends);
+                all = omega (arith, W .all);
+                sum = omega (arith, G .far, W .sum, ap (λ (v : ℕ). span t v m) e);
+              }
+        ]
 
+    -- one more step of size d at most
     one-more-at-most : (m j k : ℕ) (V : Walk j m) (W : Walk k m) → j < t .notes → V .c < 2 + W .c
     one-more-at-most m j k V W there = lt-of-mul-lt-mul-right (t .notes) {m = V .c} {n = 2 + W .c} (omega (arith, V .ends, W .ends, W .r-there))
 
     pub spans-near : (m j k : ℕ) → j < t .notes → k < t .notes → Near u d (span t j m) (span t k m)
-    spans-near m j k j-there k-there = go (walk m j j-there) (walk m k k-there)
-      where
-        go : Walk j m → Walk k m → Near u d (span t j m) (span t k m)
-        go V W = by (order (V .c) (W .c))
-          where
-            by : Order (V .c) (W .c) → Near u d (span t j m) (span t k m)
-            by (earlier i e) =
-                let c : V .c + 1 ≡ W .c = omega (arith, one-more-at-most m k j W V k-there) in
-                let x : V .x ≡ W .x + 1 = omega (arith, V .all, W .all) in
-                inr (inl (omega (arith, V .sum, W .sum, ap (λ (v : ℕ). v * d) c, ap (λ (v : ℕ). v * u) x)))
-            by (same c) =
-                let x : V .x ≡ W .x = omega (arith, V .all, W .all) in
-                inl (omega (arith, V .sum, W .sum, ap (λ (v : ℕ). v * d) c, ap (λ (v : ℕ). v * u) x))
-            by (later i e) =
-                let c : V .c ≡ W .c + 1 = omega (arith, one-more-at-most m j k V W j-there) in
-                let x : V .x + 1 ≡ W .x = omega (arith, V .all, W .all) in
-                inr (inr (omega (arith, V .sum, W .sum, ap (λ (v : ℕ). v * d) c, ap (λ (v : ℕ). v * u) x)))
+    spans-near m j k j-there k-there =
+        let V = walk m j j-there in
+        let W = walk m k k-there in
+        elim (cases-order (V .c) (W .c)) [
+          | inl same ↦
+              let x : V .x ≡ W .x = omega (arith, V .all, W .all) in
+              inl (omega (arith, V .sum, W .sum, ap (λ (v : ℕ). v * d) same, ap (λ (v : ℕ). v * u) x))
+          | inr (inl fewer) ↦
+              let c : V .c + 1 ≡ W .c = omega (arith, one-more-at-most m k j W V k-there) in
+              let x : V .x ≡ W .x + 1 = omega (arith, V .all, W .all) in
+              inr (inl (omega (arith, V .sum, W .sum, ap (λ (v : ℕ). v * d) c, ap (λ (v : ℕ). v * u) x)))
+          | inr (inr more) ↦
+              let c : V .c ≡ W .c + 1 = omega (arith, one-more-at-most m j k V W j-there) in
+              let x : V .x + 1 ≡ W .x = omega (arith, V .all, W .all) in
+              inr (inr (omega (arith, V .sum, W .sum, ap (λ (v : ℕ). v * d) c, ap (λ (v : ℕ). v * u) x)))
+        ]
 
 -- two sizes at most, and two spans that are the same or differ by as much as the sizes
 abbrev pub Two-sizes : List ℕ → ℕ → ℕ → Type 0
 Two-sizes xs v w = (length xs ≤ 2) × ((v ≡ w) ⊎ ((v + (getD xs 1 0 - getD xs 0 0) ≡ w) ⊎ (w + (getD xs 1 0 - getD xs 0 0) ≡ v)))
 
 pub near-two : (u d v w : ℕ) → Near u d v w → Two-sizes (in-order u d false) v w
-near-two u d v w near = go near (order u d)
-  where
-    go : Near u d v w → Order u d → Two-sizes (in-order u d false) v w
-    go (inl e) (earlier i h) = rw (in-order-less u d false (omega arith)) (omega arith, inl e)
-    go (inr (inl e)) (earlier i h) = rw (in-order-less u d false (omega arith)) (omega arith, inr (inl (omega arith)))
-    go (inr (inr e)) (earlier i h) = rw (in-order-less u d false (omega arith)) (omega arith, inr (inr (omega arith)))
-    go near (same h) = rw (in-order-same u d false h) (omega arith, inl (omega arith))
-    go (inl e) (later i h) = rw (in-order-more u d false (omega arith)) (omega arith, inl e)
-    go (inr (inl e)) (later i h) = rw (in-order-more u d false (omega arith)) (omega arith, inr (inr (omega arith)))
-    go (inr (inr e)) (later i h) = rw (in-order-more u d false (omega arith)) (omega arith, inr (inl (omega arith)))
+near-two u d v w near =
+    elim (cases-order u d) [
+      | inl same ↦ rw (in-order-same u d false same) (omega arith, inl (omega arith))
+      | inr (inl less) ↦ rw (in-order-less u d false less) (
+        omega arith,
+        elim near [
+          | inl e ↦ inl e
+          | inr (inl e) ↦ inr (inl (omega arith))
+          | inr (inr e) ↦ inr (inr (omega arith))
+        ],
+      )
+      | inr (inr more) ↦ rw (in-order-more u d false more) (
+        omega arith,
+        elim near [
+          | inl e ↦ inl e
+          | inr (inl e) ↦ inr (inr (omega arith))
+          | inr (inr e) ↦ inr (inl (omega arith))
+        ],
+      )
+    ]

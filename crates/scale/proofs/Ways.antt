@@ -1,79 +1,87 @@
--- The way up from one note to another: so many units, but for whole octaves.
+-- Ways up from one note to another: so many units, but for whole octaves.
 use mathlib.Core.Path.{_≡_, sym, ap, _∙_}
+use mathlib.Core.Logic.{inl, inr}
 use Prim.Native.Nat.{ℕ, suc, _+_, _*_, _-_, _/_, _%_, _≤_, _<_}
 use native.Mathlib.Nat.{mod-lt, mod-eq-of-lt, mod-add-div', mod-add-mod, add-mod-right, add-mul-mod-self-right}
-use native.Mathlib.Decide.{decLe}
 use native.Mathlib.Omega.{arith}
+use Rattle.std.proofs.shelf.Tests.{cases-lt}
 use Rattle.scale.specs.Notes.{Tuning, note}
-use Rattle.scale.specs.Basis.{Basis}
 use Rattle.scale.proofs.Octaves.{same-below}
 
--- w up from note k is note j, once c octaves are added here and e there
+-- w up from note k is note j, if c octaves are added to the one and e to the other
 pub record Way (N g k j w : ℕ) : Type 0 where
   pub c : ℕ
   pub e : ℕ
   pub is : k * g + w + c * N ≡ j * g + e * N
 
--- the three ways of a basis
-module _ {N g : ℕ} (B : Basis N g) where
-  open Basis B using (a, b, u, d, p, q)
+module _ {N g k j w : ℕ} (W : Way N g k j w) where
+  -- only how far apart in the chain the two notes are counts
+  pub way-from-zero : (i : ℕ) → k + i ≡ j → Way N g 0 i w
+  way-from-zero i later = record { c = W .c; e = W .e; is = omega (arith, W .is, ap (λ (x : ℕ). x * g) later) }
 
-  pub way-above : (k : ℕ) → Way N g k (k + a) u
-  way-above k = record { c = p; e = 0; is = omega (arith, B .above) }
+  pub way-to-zero : (i : ℕ) → j + i ≡ k → Way N g i 0 w
+  way-to-zero i earlier = record { c = W .c; e = W .e; is = omega (arith, W .is, ap (λ (x : ℕ). x * g) earlier) }
 
-  pub way-below : (k j : ℕ) → j + b ≡ k → Way N g k j d
-  way-below k j h = record { c = 0; e = q; is = omega (arith, B .below, ap (λ (x : ℕ). x * g) h) }
+  -- what is left of a longer way
+  pub way-rest : {i x : ℕ} (v : ℕ) → w + v ≡ x → Way N g k i x → Way N g j i v
+  way-rest v left V = record { c = W .e + V .c; e = W .c + V .e; is = omega (arith, W .is, V .is) }
 
-  pub way-both : (k j : ℕ) → j + b ≡ k + a → Way N g k j (u + d)
-  way-both k j h = record { c = p; e = q; is = omega (arith, B .above, B .below, ap (λ (x : ℕ). x * g) h) }
+  -- and what came before its last part
+  pub way-first : {i x : ℕ} (v : ℕ) → v + w ≡ x → Way N g i j x → Way N g i k v
+  way-first v left V = record { c = W .e + V .c; e = W .c + V .e; is = omega (arith, W .is, V .is) }
 
--- from one height up to another, which may lie over the octave's end
-height-up : (N x y : ℕ) → x < N → y ≤ x → y + (x + N - y) % N ≡ x
-height-up N x y small up =
-    let e : x + N - y ≡ (x - y) + N = omega arith in
-    let f : (x + N - y) % N ≡ x - y = ap (λ (v : ℕ). v % N) e ∙ add-mod-right (x - y) N ∙ mod-eq-of-lt (omega arith) in
-    omega arith
-
-height-over : (N x y : ℕ) → y < N → x < y → y + (x + N - y) % N ≡ x + N
-height-over N x y small down =
-    let f : (x + N - y) % N ≡ x + N - y = mod-eq-of-lt (omega arith) in
-    omega arith
+  -- to the note itself there is no way
+  pub way-to-same : w < N → k ≡ j → w ≡ 0
+  way-to-same short same = same-below N w 0 (W .c) (W .e) short (omega arith) (omega (arith, W .is, ap (λ (x : ℕ). x * g) same))
 
 -- the way as the definitions measure it
 abbrev pub way : Tuning → ℕ → ℕ → ℕ
 way t k j = (note t j + t .octave - note t k) % t .octave
 
 module _ (t : Tuning) (pos : 0 < t .octave) where
-  pub way-short : (k j : ℕ) → way t k j < t .octave
-  way-short k j = mod-lt (note t j + t .octave - note t k) pos
-
   pub note-low : (k : ℕ) → note t k < t .octave
   note-low k = mod-lt (k * t .interval) pos
 
+  pub way-short : (k j : ℕ) → way t k j < t .octave
+  way-short k j = mod-lt (note t j + t .octave - note t k) pos
+
+  -- to a higher note it stays within the octave, and to a lower one it goes over the octave's end
   pub way-to-higher : (k j : ℕ) → note t k ≤ note t j → note t k + way t k j ≡ note t j
   way-to-higher k j up = height-up (t .octave) (note t j) (note t k) (note-low j) up
+    where
+      height-up : (N x y : ℕ) → x < N → y ≤ x → y + (x + N - y) % N ≡ x
+      height-up N x y small up =
+          let e : x + N - y ≡ x - y + N = omega arith in
+          let f : (x + N - y) % N ≡ x - y = ap (λ (v : ℕ). v % N) e ∙ add-mod-right (x - y) N ∙ mod-eq-of-lt (omega arith) in
+          omega arith
 
   pub way-to-lower : (k j : ℕ) → note t j < note t k → note t k + way t k j ≡ note t j + t .octave
   way-to-lower k j down = height-over (t .octave) (note t j) (note t k) (note-low k) down
+    where
+      height-over : (N x y : ℕ) → y < N → x < y → y + (x + N - y) % N ≡ x + N
+      height-over N x y small down =
+          let f : (x + N - y) % N ≡ x + N - y = mod-eq-of-lt (omega arith) in
+          omega arith
 
   pub way-goes : (k j : ℕ) → Way (t .octave) (t .interval) k j (way t k j)
-  way-goes k j = go (decLe (note t k) (note t j))
-    where
-      heights : (N g : ℕ) → (k * g % N + k * g / N * N ≡ k * g) × (j * g % N + j * g / N * N ≡ j * g)
-      heights N g = (mod-add-div' (k * g) N, mod-add-div' (j * g) N)
+  way-goes k j =
+      let from = mod-add-div' (k * t .interval) (t .octave) in
+      let to = mod-add-div' (j * t .interval) (t .octave) in
+      elim (cases-lt (note t j) (note t k)) [
+        | inl down ↦
+            let over = way-to-lower k j down in
+            record { c = j * t .interval / t .octave; e = suc (k * t .interval / t .octave); is = omega arith }
+        | inr up ↦
+            let within = way-to-higher k j up in
+            record { c = j * t .interval / t .octave; e = k * t .interval / t .octave; is = omega arith }
+      ]
 
-      go : Dec (note t k ≤ note t j) → Way (t .octave) (t .interval) k j (way t k j)
-      go (yes up) =
-          record { c = j * t .interval / t .octave; e = k * t .interval / t .octave; is = omega (arith, heights (t .octave) (t .interval), way-to-higher k j up) }
-      go (no over) =
-          record { c = j * t .interval / t .octave; e = suc (k * t .interval / t .octave); is = omega (arith, heights (t .octave) (t .interval), way-to-lower k j (omega arith)) }
-
+  -- every way shorter than an octave is so measured, and leads where it should
   pub way-is : (k j w : ℕ) → w < t .octave → Way (t .octave) (t .interval) k j w → way t k j ≡ w
   way-is k j w short W =
       let V = way-goes k j in
       same-below (t .octave) (way t k j) w (V .c + W .e) (W .c + V .e) (way-short k j) short (omega (arith, W .is, V .is))
 
-  -- where it leads
   pub way-lands : (k j w : ℕ) → Way (t .octave) (t .interval) k j w → (note t k + w) % t .octave ≡ note t j
   way-lands k j w W =
       mod-add-mod (k * t .interval) (t .octave) w

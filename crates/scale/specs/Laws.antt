@@ -30,7 +30,11 @@ Basis-grows =
     (k * B .d + v ≡ B .u → (C : Basis N g) × (C .a ≡ B .a + k * B .b) × (C .b ≡ B .b) × (C .u ≡ v) × (C .d ≡ B .d))
     × (k * B .u + v ≡ B .d → (C : Basis N g) × (C .a ≡ B .a) × (C .b ≡ B .b + k * B .a) × (C .u ≡ B .u) × (C .d ≡ v))
 
--- the notes are not all different just if the row of bases ends at u = d before it reaches them
+-- two notes or more are all different only if there is an interval
+abbrev pub Interval-needed : Type 0
+Interval-needed = (t : Tuning) → 1 < t .notes → All-different t → 0 < t .interval
+
+-- with one they are not all different just if the row of bases ends at u = d before it reaches them
 abbrev pub Repeats-just-if : Type 0
 Repeats-just-if =
     (t : Tuning) → 0 < t .interval → t .interval < t .octave → 1 < t .notes →

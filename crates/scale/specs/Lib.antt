@@ -3,3 +3,4 @@ pub mod Promise
 pub mod Range
 pub mod Basis
 pub mod Laws
+pub mod Scales

@@ -1,6 +1,7 @@
 // What holds of every scale. These functions do nothing: their contracts are the theorems, and proofs/Theorems.antt leads to the proofs.
 ghost use Rattle.scale.specs.Promise.{Three-at-most, Go-round, By-rules, One-more, Downwards, Spans};
-ghost use Rattle.scale.specs.Laws.{No-note-nearer, Basis-exists, Basis-told, Basis-grows, Repeats-just-if, Steps-by-basis, Steps-counted, Whole-just-if, First-whole, Next-place, Places-by-height, Places-differ, Places-filled};
+ghost use Rattle.scale.specs.Laws.{No-note-nearer, Basis-exists, Basis-told, Basis-grows, Interval-needed, Repeats-just-if, Steps-by-basis, Steps-counted, Whole-just-if, First-whole, Next-place, Places-by-height, Places-differ, Places-filled};
+ghost use Rattle.scale.specs.Scales.{Five-fifths, Seven-fifths, Seven-in-twelve};
 
 // There are at most three sizes of steps, and if there are three the largest is the other two together.
 pub fn three_sizes_at_most()
@@ -39,6 +40,7 @@ pub fn basis_laws()
     ensures exists { λ _. ⌜ Basis-exists ⌝ }
     ensures told { λ _. ⌜ Basis-told ⌝ }
     ensures grows { λ _. ⌜ Basis-grows ⌝ }
+    ensures needed { λ _. ⌜ Interval-needed ⌝ }
     ensures repeats { λ _. ⌜ Repeats-just-if ⌝ }
 {}
 
@@ -60,4 +62,11 @@ pub fn place_laws()
     ensures height { λ _. ⌜ Places-by-height ⌝ }
     ensures differ { λ _. ⌜ Places-differ ⌝ }
     ensures filled { λ _. ⌜ Places-filled ⌝ }
+{}
+
+// Three scales written out: their notes by height, and their sizes of steps with how many there are of each.
+pub fn worked_scales()
+    ensures five { λ _. ⌜ Five-fifths ⌝ }
+    ensures seven { λ _. ⌜ Seven-fifths ⌝ }
+    ensures twelve { λ _. ⌜ Seven-in-twelve ⌝ }
 {}
