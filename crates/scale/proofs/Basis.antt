@@ -1,27 +1,31 @@
--- No note of the first a + b is nearer to note 0 than the two notes of a basis, and so they are all different.
+-- No note of the first a + b is nearer to note 0 than the two notes of a basis. So between any two of them it is u up at least, or d.
 use mathlib.Core.Path.{_≡_, sym, ap}
 use mathlib.Core.Logic.{inl, inr, _≢_}
 use Prim.Native.Nat.{ℕ, suc, _+_, _*_, _-_, _/_, _%_, _≤_, _<_}
-use native.Mathlib.Nat.{le-dest, eq-of-mul-eq-mul-right, mod-lt, mod-add-div', mul-le-mul-left, mul-le-mul-right, mul-pos}
+use native.Mathlib.Nat.{eq-of-mul-eq-mul-right, mod-lt, mod-add-div', mul-le-mul-left, mul-le-mul-right, mul-pos}
 use native.Mathlib.Omega.{arith}
 use Rattle.std.proofs.shelf.Tests.{cases-lt}
 use Rattle.scale.specs.Basis.{Basis}
+use Rattle.scale.specs.Laws.{No-note-nearer}
 use Rattle.scale.proofs.Octaves.{octaves-above, same-below, some-octaves}
-use Rattle.scale.proofs.Ways.{Way, way-from-zero}
+use Rattle.scale.proofs.Ways.{Way, way-from-zero, way-to-zero}
 
 -- What both gaps come to, in numbers alone: for the one above note 0, h is how far note i is above it, and for the one below it a and b, and u and d,
 -- are exchanged. Either h is u times x and some more, or i is a times x and b times y, with x and y above 0.
-nearest : (N a b u d i h x m k : ℕ) → 0 < N → a * d + b * u ≡ N → i * d + h * b ≡ x * N → 0 < x → i * u + m * N ≡ a * h + k * N → i < a + b → u ≤ h
+nearest : (N a b u d i h x m k : ℕ) → 0 < N → a * d + b * u ≡ N → i * d + h * b ≡ x * N → 0 < x → i * u + m * N ≡ a * h + k * N → i < a + b →
+    u ≤ h
 nearest N a b u d i h x m k pos whole ex some apart first =
     elim (cases-lt (a * h) (i * u)) [
       | inr few ↦
           let z = octaves-above N (a * h) (i * u) k m pos (sym apart) few in
-          let e : h * N ≡ (u * x + z .0 * d) * N = omega (arith, ap (λ (v : ℕ). h * v) whole, ap (λ (v : ℕ). v * d) (z .1), ap (λ (v : ℕ). v * u) ex) in
+          let h-whole = ap (λ (v : ℕ). h * v) whole in
+          let e : h * N ≡ (u * x + z .0 * d) * N = omega (arith, ap (λ (v : ℕ). v * d) (z .1), ap (λ (v : ℕ). v * u) ex) in
           omega (arith, eq-of-mul-eq-mul-right N pos h (u * x + z .0 * d) e, mul-le-mul-left u some)
       | inl many ↦
           let y = octaves-above N (i * u) (a * h) m k pos apart (omega arith) in
           let more : 0 < y .0 = some-octaves N (y .0) (i * u - a * h) (omega arith) (omega (arith, y .1)) in
-          let e : i * N ≡ (a * x + b * y .0) * N = omega (arith, ap (λ (v : ℕ). i * v) whole, ap (λ (v : ℕ). v * b) (y .1), ap (λ (v : ℕ). v * a) ex) in
+          let i-whole = ap (λ (v : ℕ). i * v) whole in
+          let e : i * N ≡ (a * x + b * y .0) * N = omega (arith, ap (λ (v : ℕ). v * b) (y .1), ap (λ (v : ℕ). v * a) ex) in
           omega (arith, eq-of-mul-eq-mul-right N pos i (a * x + b * y .0) e, mul-le-mul-left a some, mul-le-mul-left b more)
     ]
 
@@ -54,8 +58,8 @@ module _ {N g : ℕ} (B : Basis N g) where
   pub way-both : (k j : ℕ) → j + b ≡ k + a → Way N g k j (u + d)
   way-both k j back = record { c = p; e = q; is = omega (arith, B .above, B .below, ap (λ (x : ℕ). x * g) back) }
 
-  -- no note of the first a + b is in the gap above note 0, nor in the gap below it
-  pub gap-above : (i h : ℕ) → 0 < i → i < a + b → Way N g 0 i h → u ≤ h
+  -- note i of the first a + b is not in the gap above note 0, nor in the gap below it
+  gap-above : (i h : ℕ) → 0 < i → i < a + b → Way N g 0 i h → u ≤ h
   gap-above i h some first W =
       let up = ap (λ (v : ℕ). a * v) (W .is) in
       let down = ap (λ (v : ℕ). b * v) (W .is) in
@@ -65,25 +69,33 @@ module _ {N g : ℕ} (B : Basis N g) where
       let more = some-octaves N (x .0) (i * d + h * b) (omega (arith, mul-pos some (B .some-d))) (omega (arith, x .1)) in
       nearest N a b u d i h (x .0) (i * p + a * W .e) (a * W .c) octave-some (B .whole) (omega (arith, x .1)) more (omega arith) first
 
-  pub gap-below : (i h : ℕ) → 0 < i → i < a + b → Way N g i 0 h → d ≤ h
+  gap-below : (i h : ℕ) → 0 < i → i < a + b → Way N g i 0 h → d ≤ h
   gap-below i h some first W =
       let up = ap (λ (v : ℕ). a * v) (W .is) in
       let down = ap (λ (v : ℕ). b * v) (W .is) in
       let a-up = ap (λ (v : ℕ). i * v) (B .above) in
       let b-down = ap (λ (v : ℕ). i * v) (B .below) in
+      let whole : b * u + a * d ≡ N = omega (arith, B .whole) in
       let x = octaves-above N (i * u + h * a) 0 (i * p + a * W .c) (a * W .e) octave-some (omega arith) (omega arith) in
       let more = some-octaves N (x .0) (i * u + h * a) (omega (arith, mul-pos some (B .some-u))) (omega (arith, x .1)) in
-      nearest N b a d u i h (x .0) (b * W .e) (i * q + b * W .c) octave-some (omega (arith, B .whole)) (omega (arith, x .1)) more (omega arith) (omega arith)
+      nearest N b a d u i h (x .0) (b * W .e) (i * q + b * W .c) octave-some whole (omega (arith, x .1)) more (omega arith) (omega arith)
 
-  -- the same by heights
-  pub no-note-nearer : (j : ℕ) → 0 < j → j < a + b → (u ≤ j * g % N) × (j * g % N + d ≤ N)
-  no-note-nearer j some first =
-      let height = mod-add-div' (j * g) N in
-      let low = mod-lt (j * g) octave-some in
-      let above = gap-above j (j * g % N) some first record { c = j * g / N; e = 0; is = omega arith } in
-      let below = gap-below j (N - j * g % N) some first record { c = 0; e = suc (j * g / N); is = omega arith } in
-      (above, omega arith)
+  -- so it is u at least from a note up to any of the next a + b - 1 in the chain, and d at least to any of those before it
+  pub far-later : {k j w : ℕ} → Way N g k j w → k < j → j < k + (a + b) → u ≤ w
+  far-later {k} {j} {w} W later near = gap-above (j - k) w (omega arith) (omega arith) (way-from-zero W (j - k) (omega arith))
 
+  pub far-earlier : {k j w : ℕ} → Way N g k j w → j < k → k < j + (a + b) → d ≤ w
+  far-earlier {k} {j} {w} W earlier near = gap-below (k - j) w (omega arith) (omega arith) (way-to-zero W (k - j) (omega arith))
+
+  -- and no two of the first a + b are level
+  pub first-different : (i j : ℕ) → i < j → j < a + b → i * g % N ≢ j * g % N
+  first-different i j less first level =
+      let from = mod-add-div' (i * g) N in
+      let to = mod-add-div' (j * g) N in
+      let W : Way N g i j 0 = record { c = j * g / N; e = i * g / N; is = omega arith } in
+      omega (arith, B .some-u, far-later W less (omega arith))
+
+  -- how high the two notes are
   pub height-above : a * g % N ≡ u
   height-above =
       let height = mod-add-div' (a * g) N in
@@ -96,10 +108,10 @@ module _ {N g : ℕ} (B : Basis N g) where
       let e = same-below N (b * g % N) (N - d) (suc (b * g / N)) q (mod-lt (b * g) octave-some) low (omega (arith, fits, B .below)) in
       omega (arith, fits)
 
-  pub first-different : (i j : ℕ) → i < j → j < a + b → i * g % N ≢ j * g % N
-  first-different i j less first same =
-      let m = le-dest less in
-      let from = mod-add-div' (i * g) N in
-      let to = mod-add-div' (j * g) N in
-      let level : Way N g i j 0 = record { c = j * g / N; e = i * g / N; is = omega arith } in
-      omega (arith, B .some-u, gap-above (suc (m .0)) 0 (omega arith) (omega (arith, m .1)) (way-from-zero level (suc (m .0)) (omega (arith, m .1))))
+pub no-note-nearer : No-note-nearer
+no-note-nearer N g B j some first =
+    let height = mod-add-div' (j * g) N in
+    let low = mod-lt (j * g) (octave-some B) in
+    let up : Way N g 0 j (j * g % N) = record { c = j * g / N; e = 0; is = omega arith } in
+    let down : Way N g j 0 (N - j * g % N) = record { c = 0; e = suc (j * g / N); is = omega arith } in
+    (far-later B up some (omega arith), omega (arith, far-earlier B down some (omega arith)))

@@ -3,7 +3,6 @@ use mathlib.Core.Path.{_≡_, refl, ap}
 use mathlib.Core.Logic.{_⊎_, inl, inr, _≢_}
 use Prim.Native.Nat.{ℕ, zero, suc, _+_, _≤_, _<_}
 use native.Mathlib.Omega.{arith}
-use lib.Dec.{leb}
 use Rattle.std.proofs.shelf.Tests.{cases-lt, cases-eq, le-leb, lt-leb}
 use Rattle.scale.specs.Notes.{pick, Tuning, note, up-to}
 
@@ -81,5 +80,6 @@ module _ (t : Tuning) where
             omega (arith, ap (note t) last, stays h x n (omega arith) (λ i l. others i (omega arith) (omega arith)), counted h n, counted x n)
         | inr other ↦
             let ne : j ≢ n = other in
-            omega (arith, rises-by-one h x j n (omega arith) above upto (λ i l. others i (omega arith)), others n (omega arith) (omega arith), counted h n, counted x n)
+            let rest = rises-by-one h x j n (omega arith) above upto (λ i less. others i (omega arith)) in
+            omega (arith, others n (omega arith) (omega arith), counted h n, counted x n)
       ]

@@ -1,14 +1,15 @@
--- A basis grows: the farther of its two notes is exchanged for one that is nearer by the other's distance, or by k times that at once. The row of bases
--- that begins with note 1 on both sides reaches every number of notes, unless it ends at u = d: then note a + b is as high as note 0.
-use mathlib.Core.Path.{_≡_, sym, ap, _∙_}
-use mathlib.Core.Logic.{inl, inr, _≢_, _↔_}
-use Prim.Native.Nat.{ℕ, zero, suc, _+_, _*_, _-_, _%_, _≤_, _<_}
+-- A basis grows: the farther of its two notes is exchanged for one that is nearer by the other's distance, or by k times that at once. The row of
+-- bases that begins with note 1 on both sides reaches every number of notes, unless it ends at u = d: then note a + b is as high as note 0.
+use mathlib.Core.Path.{_≡_, refl, sym, ap, _∙_}
+use mathlib.Core.Logic.{inl, inr, _≢_}
+use Prim.Native.Nat.{ℕ, zero, suc, _+_, _*_, _-_, _%_, _<_}
 use native.Mathlib.Nat.{zero-mul, zero-mod, add-mul-mod-self-right}
 use native.Mathlib.Omega.{arith}
 use Rattle.std.proofs.shelf.Tests.{cases-lt, cases-order}
 use Rattle.scale.specs.Notes.{Tuning, note}
 use Rattle.scale.specs.Promise.{Taken, with-notes}
 use Rattle.scale.specs.Basis.{Basis, Basis-of, All-different}
+use Rattle.scale.specs.Laws.{Basis-begins, Basis-grows, Basis-exists, Interval-needed, Repeats-just-if}
 use Rattle.scale.proofs.Basis.{first-different}
 
 -- the row begins with note 1 on both sides
@@ -70,6 +71,15 @@ module _ {N g : ℕ} (B : Basis N g) (k v : ℕ) where
         some-u = B .some-u;
         some-d = some;
       }
+
+pub basis-begins : Basis-begins
+basis-begins N g some small = (first-basis some small, refl, refl, refl, refl)
+
+pub basis-grows : Basis-grows
+basis-grows N g B k v some = (
+  λ left. (nearer-above B k v left some, refl, refl, refl, refl),
+  λ left. (nearer-below B k v left some, refl, refl, refl, refl),
+)
 
 module _ {N g : ℕ} (B : Basis N g) where
   open Basis B using (a, b, u, d, p, q)
@@ -155,8 +165,7 @@ pub different : {t : Tuning} → Basis-of t → All-different t
 different B j k less there = first-different (B .basis) j k less (omega (arith, B .reach))
 
 -- so the notes are not all different just if the row ends at u = d before it reaches them
-pub repeats-just-if : (t : Tuning) → 0 < t .interval → t .interval < t .octave → 1 < t .notes →
-    (All-different t → ⊥) ↔ ((B : Basis (t .octave) (t .interval)) × (B .u ≡ B .d) × (B .a + B .b < t .notes))
+pub repeats-just-if : Repeats-just-if
 repeats-just-if t some small many = (
   λ repeat. elim (row-end t some small many) [
     | reached B ↦ absurd (repeat (different B))
@@ -169,8 +178,8 @@ pub note-zero : (t : Tuning) → note t 0 ≡ 0
 note-zero t = ap (λ (x : ℕ). x % t .octave) (zero-mul (t .interval)) ∙ zero-mod (t .octave)
 
 -- without an interval note 1 is as high as note 0
-pub interval-some : (t : Tuning) → 1 < t .notes → All-different t → 0 < t .interval
-interval-some t many differ =
+pub interval-needed : Interval-needed
+interval-needed t many differ =
     elim (cases-lt 0 (t .interval)) [
       | inl some ↦ some
       | inr none ↦ absurd (differ 0 1 (omega arith) many (ap (λ (x : ℕ). x % t .octave) (omega arith)))
@@ -179,14 +188,14 @@ interval-some t many differ =
 -- every tuning of two notes or more, all of them different, has a basis
 pub basis-of : (t : Tuning) → t .interval < t .octave → 1 < t .notes → All-different t → Basis-of t
 basis-of t small many differ =
-    elim (row-end t (interval-some t many differ) small many) [
+    elim (row-end t (interval-needed t many differ) small many) [
       | reached B ↦ B
       | repeats B same early ↦ absurd (not-all-different B same (t .notes) early differ)
     ]
 
-pub taken-basis : (t : Tuning) → Taken t → 1 < t .notes → Basis-of t
+pub basis-exists : Basis-exists
 unfolding Taken
-taken-basis t T many = basis-of t (T .2) many (T .5)
+basis-exists t T many = basis-of t (T .2) many (T .5)
 
 -- a taken tuning has one note, or it has a basis
 pub data One-or-more (t : Tuning) : Type 0 where
@@ -197,6 +206,6 @@ pub one-or-more : (t : Tuning) → Taken t → One-or-more t
 unfolding Taken
 one-or-more t T =
     elim (cases-lt 1 (t .notes)) [
-      | inl many ↦ has-basis (taken-basis t T many)
+      | inl many ↦ has-basis (basis-exists t T many)
       | inr few ↦ one-note (T .0) (omega (arith, T .3))
     ]

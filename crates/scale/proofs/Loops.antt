@@ -58,7 +58,8 @@ find-is f y j (suc n) there is one =
       | inl last ↦ picked (f n) y (suc n) (find f y n) (ap f last ∙ is) ∙ ap suc last
       | inr before ↦
           let ne : n ≢ j = before in
-          not-picked (f n) y (suc n) (find f y n) (λ also. before (one n (omega arith) also)) ∙ find-is f y j n (omega arith) is (λ i less. one i (omega arith))
+          let rest = find-is f y j n (omega arith) is (λ i less. one i (omega arith)) in
+          not-picked (f n) y (suc n) (find f y n) (λ also. before (one n (omega arith) also)) ∙ rest
     ]
 
 next-finds : (t : Tuning) (k n : ℕ) → next-in t k n ≡ find (note t) ((note t k + step t k) % t .octave) n

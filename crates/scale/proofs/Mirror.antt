@@ -1,16 +1,20 @@
--- The interval down in place of up: the two notes of the basis change places, and so do u and d. The sizes of steps, and how many there are of each, stay.
+-- The interval down in place of up: the two notes of the basis are exchanged, and so are u and d. The sizes of steps, and how many there are of each,
+-- stay.
 use mathlib.Core.Path.{_≡_, sym, ap, _∙_}
 use mathlib.Core.Logic.{inl, inr}
 use mathlib.Core.Bool.{Bool}
-use Prim.Native.Nat.{ℕ, suc, _+_, _*_, _-_, _≤_, _<_}
+use Prim.Native.Nat.{ℕ, suc, _+_, _*_, _-_, _<_}
 use native.Mathlib.Nat.{le-dest, add-comm, le-of-mul-le-mul-right, lt-of-mul-lt-mul-right}
 use native.Mathlib.Omega.{arith}
 use lib.Dec.{ltb}
 use Rattle.std.proofs.shelf.Tests.{cases-order}
 use Rattle.scale.specs.Notes.{Tuning, so-large, sizes}
+use Rattle.scale.specs.Promise.{Taken, Downwards}
 use Rattle.scale.specs.Basis.{Basis, Basis-of}
+use Rattle.scale.specs.Laws.{in-order}
 use Rattle.scale.proofs.Basis.{octave-some, fits}
-use Rattle.scale.proofs.Sizes.{in-order, sizes-are, so-many, one-size, so-many-of-one}
+use Rattle.scale.proofs.Growth.{one-note, has-basis, one-or-more}
+use Rattle.scale.proofs.Sizes.{sizes-are, so-many, one-size, so-many-of-one}
 
 module _ {N g : ℕ} (f : ℕ) (mirror : g + f ≡ N) (B : Basis N g) where
   open Basis B using (a, b, u, d, p, q)
@@ -18,7 +22,8 @@ module _ {N g : ℕ} (f : ℕ) (mirror : g + f ≡ N) (B : Basis N g) where
   -- note b, which goes round q times up, goes round b - q times down
   pub turns-below : (x : ℕ) × (q + x ≡ b)
   turns-below =
-      let less : q < suc b = lt-of-mul-lt-mul-right N {m = q} {n = suc b} (omega (arith, B .below, B .some-u, fits B, ap (λ (x : ℕ). b * x) mirror)) in
+      let turns = ap (λ (x : ℕ). b * x) mirror in
+      let less : q < suc b = lt-of-mul-lt-mul-right N (omega (arith, B .below, B .some-u, fits B)) in
       le-dest (omega arith)
 
   pub turns-above : (x : ℕ) × (p + x ≡ a)
@@ -62,7 +67,12 @@ module _ {t : Tuning} (small : t .interval < t .octave) (B : Basis-of t) where
   pub basis-down : Basis-of (down t)
   unfolding mirrored
   basis-down =
-      record { basis = mirrored (t .octave - t .interval) (omega arith) (B .basis); a-there = B .b-there; b-there = B .a-there; reach = omega (arith, B .reach) }
+      record {
+        basis = mirrored (t .octave - t .interval) (omega arith) (B .basis);
+        a-there = B .b-there;
+        b-there = B .a-there;
+        reach = omega (arith, B .reach);
+      }
 
   pub sizes-down : sizes (down t) ≡ sizes t
   unfolding mirrored basis-down
@@ -77,8 +87,11 @@ module _ {t : Tuning} (small : t .interval < t .octave) (B : Basis-of t) where
       let more : b + a - t .notes ≡ a + b - t .notes = omega arith in
       omega (arith, so-many B s, rw (sum, more) at (so-many basis-down s))
 
-pub sizes-down-alone : (t : Tuning) → 0 < t .octave → t .notes ≡ 1 → sizes (down t) ≡ sizes t
-sizes-down-alone t pos one = one-size (down t) pos one ∙ sym (one-size t pos one)
-
-pub so-many-down-alone : (t : Tuning) (s : ℕ) → 0 < t .octave → t .notes ≡ 1 → so-large (down t) s (t .notes) ≡ so-large t s (t .notes)
-so-many-down-alone t s pos one = so-many-of-one (down t) s pos one ∙ sym (so-many-of-one t s pos one)
+pub downwards : Downwards
+unfolding Downwards Taken
+downwards t s T some =
+    elim (one-or-more t T) [
+      | one-note pos one ↦
+          (one-size (down t) pos one ∙ sym (one-size t pos one), so-many-of-one (down t) s pos one ∙ sym (so-many-of-one t s pos one))
+      | has-basis B ↦ (sizes-down (T .2) B, so-many-down (T .2) B s)
+    ]

@@ -8,8 +8,9 @@ use Rattle.std.proofs.shelf.Tests.{cases-lt, cases-order}
 use Rattle.scale.specs.Notes.{Tuning, note, up-to, place, next}
 use Rattle.scale.specs.Promise.{Taken}
 use Rattle.scale.specs.Basis.{All-different}
+use Rattle.scale.specs.Laws.{Next-place, Places-by-height, Places-differ, Places-filled}
 use Rattle.scale.proofs.Growth.{note-zero}
-use Rattle.scale.proofs.Ways.{way, note-low, way-to-higher, way-to-lower}
+use Rattle.scale.proofs.Ways.{note-low, way-to-higher, way-to-lower}
 use Rattle.scale.proofs.Steps.{Goes, same-note, goes-on}
 use Rattle.scale.proofs.Counts.{at-most, all-counted, one-counted, counts-itself, rises-over, rises-by-one}
 
@@ -26,7 +27,7 @@ module _ (t : Tuning) where
   place-rises j k j-there k-there less =
       omega (arith, place-counts j j-there, place-counts k k-there, rises-over t (note t j) (note t k) k (t .notes) k-there less (omega arith))
 
-  pub place-by-height : (j k : ℕ) → j < t .notes → k < t .notes → (place t j < place t k) ↔ (note t j < note t k)
+  place-by-height : (j k : ℕ) → j < t .notes → k < t .notes → (place t j < place t k) ↔ (note t j < note t k)
   place-by-height j k j-there k-there = (
     λ less. elim (cases-order (note t j) (note t k)) [
       | inl level ↦ absurd (omega (arith, ap (λ (h : ℕ). up-to t h (t .notes)) level))
@@ -48,7 +49,9 @@ module _ (t : Tuning) (pos : 0 < t .octave) (differ : All-different t) where
   -- a step that stays within the octave
   step-within : (k s j : ℕ) → k < t .notes → Goes t k s j → note t k + s < t .octave → place t j ≡ suc (place t k)
   step-within k s j there G within =
-      omega (arith, place-counts t k there, place-counts t j (G .there), rises-by-one t (note t k) (note t j) j (t .notes) (G .there) (omega (arith, lands, G .some)) (omega arith) others)
+      let higher : note t k < note t j = omega (arith, lands, G .some) in
+      let one-more = rises-by-one t (note t k) (note t j) j (t .notes) (G .there) higher (omega arith) others in
+      omega (arith, place-counts t k there, place-counts t j (G .there))
     where
       lands : note t k + s ≡ note t j
       lands = sym (mod-eq-of-lt within) ∙ G .lands
@@ -90,7 +93,9 @@ module _ (t : Tuning) (pos : 0 < t .octave) (differ : All-different t) where
           ]
 
       first : j ≡ 0
-      first = same-note t differ j 0 (G .there) (omega arith) (sym (G .lands) ∙ ap (λ (x : ℕ). x % t .octave) end ∙ mod-self (t .octave) ∙ sym (note-zero t))
+      first =
+          let level = sym (G .lands) ∙ ap (λ (x : ℕ). x % t .octave) end ∙ mod-self (t .octave) ∙ sym (note-zero t) in
+          same-note t differ j 0 (G .there) (omega arith) level
 
   pub place-of-next : (k s j : ℕ) → k < t .notes → Goes t k s j → place t j ≡ suc (place t k) % t .notes
   place-of-next k s j there G =
@@ -104,10 +109,27 @@ module _ (t : Tuning) (pos : 0 < t .octave) (differ : All-different t) where
       ]
 
 -- at every place there is a note: go on from note 0 as many times
-pub note-at-place : (t : Tuning) → Taken t → (p : ℕ) → p < t .notes → (k : ℕ) × (k < t .notes) × (place t k ≡ p)
+note-at-place : (t : Tuning) → Taken t → (p : ℕ) → p < t .notes → (k : ℕ) × (k < t .notes) × (place t k ≡ p)
 unfolding Taken
 note-at-place t T zero there = (0, there, place-zero t (T .0) (T .5) there)
 note-at-place t T (suc p) there =
     let (k, k-there, at-p) = note-at-place t T p (omega arith) in
     let (s, j, G) = goes-on t T k k-there in
     (j, G .there, place-of-next t (T .0) (T .5) k s j k-there G ∙ ap (λ (x : ℕ). suc x % t .notes) at-p ∙ mod-eq-of-lt there)
+
+pub next-place : Next-place
+unfolding Taken
+next-place t k T there =
+    let (s, j, G) = goes-on t T k there in
+    let e : next t k - 1 ≡ j = omega (arith, G .to) in
+    (omega (arith, G .to), omega (arith, G .to, G .there), ap (place t) e ∙ place-of-next t (T .0) (T .5) k s j there G)
+
+pub places-by-height : Places-by-height
+places-by-height = place-by-height
+
+pub places-differ : Places-differ
+unfolding Taken
+places-differ t j k T = same-place t (T .0) (T .5) j k
+
+pub places-filled : Places-filled
+places-filled t T = (place-there t, note-at-place t T)

@@ -16,11 +16,12 @@ use Rattle.scale.specs.Notes.{pick, Tuning, note, place, next, so-large, sizes
 use Rattle.scale.specs.Range.{octave-fits, interval-fits, notes-fit}
 use Rattle.scale.specs.Promise.{Taken}
 use Rattle.scale.specs.Basis.{Basis, Basis-of, All-different}
-use Rattle.scale.specs.Scales.{sizes-listed, As-many, Written-out}
+use Rattle.scale.specs.Laws.{in-order}
+use Rattle.scale.specs.Scales.{sizes-listed, As-many, Written-out, Five-fifths, Seven-fifths, Seven-in-twelve}
 use Rattle.scale.proofs.Basis.{octave-some, height-above, height-below}
-use Rattle.scale.proofs.Growth.{taken-basis}
-use Rattle.scale.proofs.Steps.{Goes, goes-below, goes-on, next-zero}
-use Rattle.scale.proofs.Sizes.{in-order, sizes-are, so-many}
+use Rattle.scale.proofs.Growth.{basis-exists}
+use Rattle.scale.proofs.Steps.{goes-below, goes-on, next-zero}
+use Rattle.scale.proofs.Sizes.{sizes-are, so-many}
 use Rattle.scale.proofs.Places.{place-there, place-rises, same-place, place-zero, place-of-next}
 
 -- a test of all numbers below n, and one of some number
@@ -76,7 +77,11 @@ module _ (t : Tuning) (row : List ℕ) where
   is-lower i = ltb (note t (at i)) (note t (at (suc i)))
 
   abbrev is-row : Bool
-  is-row = in-range && (eqb (length row) (t .notes) && (all-below (t .notes) is-note && (all-below (t .notes) is-there && all-below (t .notes - 1) is-lower)))
+  is-row =
+      let lower : Bool = all-below (t .notes - 1) is-lower in
+      let there : Bool = all-below (t .notes) is-there in
+      let notes : Bool = all-below (t .notes) is-note in
+      in-range && (eqb (length row) (t .notes) && (notes && (there && lower)))
 
   -- what it says
   record Row : Type 0 where
@@ -135,7 +140,8 @@ module _ {t : Tuning} {row : List ℕ} (R : Row t row) where
   -- n places that rise, all below n, are 0 to n - 1
   row-places : (i : ℕ) → i < t .notes → place t (at t row i) ≡ i
   row-places i there =
-      let up = λ (x : ℕ) (less : suc x < t .notes). place-rises t (at t row x) (at t row (suc x)) (R .there x (omega arith)) (R .there (suc x) less) (R .rises x less) in
+      let up = λ (x : ℕ) (less : suc x < t .notes).
+      place-rises t (at t row x) (at t row (suc x)) (R .there x (omega arith)) (R .there (suc x) less) (R .rises x less) in
       let last : ℕ = t .notes - suc i in
       let from-first = climbs (λ x. place t (at t row x)) (t .notes) up 0 i (omega arith) in
       let to-last = climbs (λ x. place t (at t row x)) (t .notes) up i last (omega arith) in
@@ -204,7 +210,7 @@ module _ (t : Tuning) (row : List ℕ) where
   all-told [] = true
   all-told (x ∷ xs) = eqb (many-told (x .0)) (x .1) && all-told xs
 
-  abbrev pub writes-out : List (ℕ × ℕ) → Bool
+  abbrev writes-out : List (ℕ × ℕ) → Bool
   writes-out steps = is-row t row && (leb 2 (t .notes) && (sameBytes sizes-told (sizes-listed steps) && all-told steps))
 
 module _ {t : Tuning} {row : List ℕ} (R : Row t row) (B : Basis-of t) where
@@ -221,14 +227,14 @@ module _ {t : Tuning} {row : List ℕ} (R : Row t row) (B : Basis-of t) where
       (many-so (x .0) ∙ eqb-true (many-told t row (x .0)) (x .1) (parts .0), all-so xs (parts .1))
 
 -- a row of two notes or more that passes the test is the scale
-pub written-out : (t : Tuning) (row : List ℕ) (steps : List (ℕ × ℕ)) → writes-out t row steps ≡ true → Written-out t row steps
+written-out : (t : Tuning) (row : List ℕ) (steps : List (ℕ × ℕ)) → writes-out t row steps ≡ true → Written-out t row steps
 written-out t row steps passed =
     let listed : Bool = sameBytes (sizes-told t row) (sizes-listed steps) in
     let p = and-parts (is-row t row) (leb 2 (t .notes) && (listed && all-told t row steps)) passed in
     let q = and-parts (leb 2 (t .notes)) (listed && all-told t row steps) (p .1) in
     let r = and-parts listed (all-told t row steps) (q .1) in
     let R = row-tested t row (p .0) in
-    let B = taken-basis t (row-taken R) (leb-true 2 (t .notes) (q .0)) in
+    let B = basis-exists t (row-taken R) (leb-true 2 (t .notes) (q .0)) in
     record {
       taken = row-taken R;
       row-length = R .long;
@@ -238,3 +244,15 @@ written-out t row steps passed =
       all-sizes = sizes-so R B ∙ sameBytes-decides (sizes-told t row) (sizes-listed steps) .0 (r .0);
       as-many = all-so R B steps (r .1);
     }
+
+pub five-fifths : Five-fifths
+unfolding in-order
+five-fifths = written-out _ _ _ refl
+
+pub seven-fifths : Seven-fifths
+unfolding in-order
+seven-fifths = written-out _ _ _ refl
+
+pub seven-in-twelve : Seven-in-twelve
+unfolding in-order
+seven-in-twelve = written-out _ _ _ refl

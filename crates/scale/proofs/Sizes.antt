@@ -10,14 +10,11 @@ use lib.Dec.{ltb, eqb}
 use lib.ListN.{length, getD}
 use Rattle.std.proofs.shelf.Tests.{cases-order, lt-ltb, le-ltb, eq-eqb, ne-eqb}
 use Rattle.scale.specs.Notes.{pick, Tuning, so-large, put-in, sizes}
+use Rattle.scale.specs.Promise.{Three-at-most}
 use Rattle.scale.specs.Basis.{Basis, Basis-of}
+use Rattle.scale.specs.Laws.{in-order, Sizes-listed, Steps-counted}
+use Rattle.scale.proofs.Growth.{one-note, has-basis, one-or-more}
 use Rattle.scale.proofs.Sums.{times, over-all, over-one, sizes-over, so-large-over, sum-all}
-
--- two sizes, and both together if there is such a step: smallest first, and one of equal ones
-unfoldable pub in-order : ℕ → ℕ → Bool → List ℕ
-in-order u d both =
-    let rest : List ℕ = pick both ((u + d) ∷ []) [] in
-    pick (ltb u d) (u ∷ (d ∷ rest)) (pick (eqb u d) (u ∷ rest) (d ∷ (u ∷ rest)))
 
 module _ (u d : ℕ) (both : Bool) where
   pub in-order-less : u < d → in-order u d both ≡ u ∷ (d ∷ pick both ((u + d) ∷ []) [])
@@ -120,3 +117,17 @@ one-size t pos one = sizes-over t (t .notes) ∙ over-one t pos one put-in []
 pub so-many-of-one : (t : Tuning) (s : ℕ) → 0 < t .octave → t .notes ≡ 1 → so-large t s (t .notes) ≡ pick (eqb (t .octave) s) 1 0
 so-many-of-one t s pos one =
     so-large-over t s (t .notes) ∙ over-one t pos one (λ (x l : ℕ). pick (eqb x s) 1 0 + l) 0 ∙ add-zero (pick (eqb (t .octave) s) 1 0)
+
+pub sizes-listed : Sizes-listed
+sizes-listed t B = sizes-are B
+
+pub steps-counted : Steps-counted
+steps-counted t B = so-many B
+
+pub three-at-most : Three-at-most
+unfolding Three-at-most
+three-at-most t T =
+    elim (one-or-more t T) [
+      | one-note pos one ↦ rw (one-size t pos one) (omega arith, λ three. absurd (omega arith))
+      | has-basis B ↦ rw (sizes-are B) (three-in-order (B .basis .u) (B .basis .d) (ltb (t .notes) (B .basis .a + B .basis .b)))
+    ]

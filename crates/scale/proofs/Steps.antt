@@ -1,16 +1,17 @@
 -- The step from every note and the note after it, from the basis of a tuning.
 use mathlib.Core.Path.{_≡_, refl, sym, ap, _∙_}
 use mathlib.Core.Logic.{_⊎_, inl, inr}
-use Prim.Native.Nat.{ℕ, zero, suc, _+_, _-_, _%_, _≤_, _<_}
-use native.Mathlib.Nat.{mod-self}
+use Prim.Native.Nat.{ℕ, suc, _+_, _*_, _-_, _%_, _≤_, _<_}
+use native.Mathlib.Nat.{add-mod-right, mod-mod}
 use native.Mathlib.Omega.{arith}
 use Rattle.std.proofs.shelf.Tests.{cases-lt, cases-order}
 use Rattle.scale.specs.Notes.{Tuning, note, step, next, before}
-use Rattle.scale.specs.Promise.{Taken}
+use Rattle.scale.specs.Promise.{Taken, By-rules}
 use Rattle.scale.specs.Basis.{Basis, Basis-of, All-different}
+use Rattle.scale.specs.Laws.{Basis-told, Steps-by-basis, Step-alone}
 use Rattle.scale.proofs.Basis.{octave-some, fits, fits-below, way-above, way-below, way-both}
-use Rattle.scale.proofs.Growth.{different, note-zero, One-or-more, one-note, has-basis, one-or-more}
-use Rattle.scale.proofs.Ways.{Way, way, way-short, way-goes, way-is, way-lands}
+use Rattle.scale.proofs.Growth.{different, basis-exists, one-note, has-basis, one-or-more}
+use Rattle.scale.proofs.Ways.{Way-in, way, way-short, way-to-same, way-goes, way-is, way-lands}
 use Rattle.scale.proofs.Rules.{rule-above, rule-below, rule-both}
 use Rattle.scale.proofs.Loops.{way-up-is, next-in-is, before-in-is}
 
@@ -36,7 +37,16 @@ same-note t differ i j i-there j-there level =
 -- a way that no other is shorter than is the step
 goes : (t : Tuning) → All-different t → (k s j : ℕ) → 0 < s → s ≤ t .octave → j < t .notes → (note t k + s) % t .octave ≡ note t j →
     (t .octave ≡ s) ⊎ (way t k j ≡ s) → ((i : ℕ) → i < t .notes → (way t k i ≡ 0) ⊎ (s ≤ way t k i)) → Goes t k s j
-goes t differ k s j some short there lands is least = record { there = there; some = some; short = short; far = far; to = to; lands = lands; least = least }
+goes t differ k s j some short there lands is least =
+    record {
+      there = there;
+      some = some;
+      short = short;
+      far = far;
+      to = to;
+      lands = lands;
+      least = least;
+    }
   where
     way-or-octave : (t .octave ≡ s) ⊎ (way t k j ≡ s) → (t .octave ≡ s) ⊎ ((i : ℕ) × (i < t .notes) × (way t k i ≡ s))
     way-or-octave (inl e) = inl e
@@ -54,28 +64,32 @@ goes t differ k s j some short there lands is least = record { there = there; so
 module _ {t : Tuning} (B : Basis-of t) where
   open Basis (B .basis) using (a, b, u, d)
 
-  goes-by : (k s j : ℕ) → 0 < s → s < t .octave → j < t .notes → Way (t .octave) (t .interval) k j s →
-      ((i w : ℕ) → i < t .notes → w < t .octave → Way (t .octave) (t .interval) k i w → (w ≡ 0) ⊎ (s ≤ w)) → Goes t k s j
+  goes-by : (k s j : ℕ) → 0 < s → s < t .octave → j < t .notes → Way-in t k j s →
+      ((i w : ℕ) → i < t .notes → w < t .octave → Way-in t k i w → (w ≡ 0) ⊎ (s ≤ w)) → Goes t k s j
   goes-by k s j some short there W rule =
       let pos = octave-some (B .basis) in
-      goes t (different B) k s j some (omega arith) there (way-lands t pos k j s W) (inr (way-is t pos k j s short W))
-      (λ i is. rule i (way t k i) is (way-short t pos k i) (way-goes t pos k i))
+      let least = λ (i : ℕ) (i-there : i < t .notes). rule i (way t k i) i-there (way-short t pos k i) (way-goes t pos k i) in
+      goes t (different B) k s j some (omega arith) there (way-lands t pos k j s W) (inr (way-is t pos k j s short W)) least
 
   pub goes-above : (k : ℕ) → k + a < t .notes → Goes t k u (k + a)
   goes-above k there =
-      goes-by k u (k + a) (B .basis .some-u) (omega (arith, fits (B .basis), B .basis .some-d)) there (way-above (B .basis) k)
-      (λ i w is ws W. rule-above B k i w (omega arith) is ws W there)
+      let short : u < t .octave = omega (arith, fits (B .basis), B .basis .some-d) in
+      let W = way-above (B .basis) k in
+      goes-by k u (k + a) (B .basis .some-u) short there W (λ i w i-there w-short W. rule-above B (omega arith) i-there w-short W there)
 
   pub goes-both : (k : ℕ) → t .notes ≤ k + a → k < b → Goes t k (u + d) (k + a - b)
   goes-both k far near =
-      goes-by k (u + d) (k + a - b) (omega (arith, B .basis .some-u)) (fits-below (B .basis) (omega (arith, B .a-there, B .b-there))) (omega (arith, B .a-there))
-      (way-both (B .basis) k (k + a - b) (omega (arith, B .reach)))
-      (λ i w is ws W. rule-both B k i w (omega (arith, B .b-there)) is ws W far near)
+      let some : 0 < u + d = omega (arith, B .basis .some-u) in
+      let short : u + d < t .octave = fits-below (B .basis) (omega (arith, B .a-there, B .b-there)) in
+      let there : k + a - b < t .notes = omega (arith, B .a-there) in
+      let W = way-both (B .basis) k (k + a - b) (omega (arith, B .reach)) in
+      goes-by k (u + d) (k + a - b) some short there W (λ i w i-there w-short W. rule-both B (omega (arith, B .b-there)) i-there w-short W far near)
 
   pub goes-below : (k : ℕ) → k < t .notes → b ≤ k → Goes t k d (k - b)
   goes-below k k-there far =
-      goes-by k d (k - b) (B .basis .some-d) (omega (arith, fits (B .basis), B .basis .some-u)) (omega arith) (way-below (B .basis) k (k - b) (omega arith))
-      (λ i w is ws W. rule-below B k i w k-there is ws W far)
+      let short : d < t .octave = omega (arith, fits (B .basis), B .basis .some-u) in
+      let W = way-below (B .basis) k (k - b) (omega arith) in
+      goes-by k d (k - b) (B .basis .some-d) short (omega arith) W (λ i w i-there w-short W. rule-below B k-there i-there w-short W far)
 
   -- which of the three it is
   pub data Rule (k : ℕ) : Type 0 where
@@ -109,17 +123,15 @@ module _ {t : Tuning} (B : Basis-of t) where
 
 -- a note alone: the step is the octave, and leads back to it
 pub alone : (t : Tuning) → 0 < t .octave → t .notes ≡ 1 → Goes t 0 (t .octave) 0
-alone t pos one =
-    goes t (λ j k less there. absurd (omega arith)) 0 (t .octave) 0 pos (omega arith) (omega arith) (lands (note t 0) (note-zero t)) (inl refl) (λ i is. inl (none i (omega arith)))
+alone t pos one = goes t (λ j k less there. absurd (omega arith)) 0 (t .octave) 0 pos (omega arith) (omega arith) lands (inl refl) least
   where
-    lands : (h : ℕ) → h ≡ 0 → (h + t .octave) % t .octave ≡ h
-    lands h zero-high = ap (λ (x : ℕ). x % t .octave) (omega arith) ∙ mod-self (t .octave) ∙ sym zero-high
+    lands : (note t 0 + t .octave) % t .octave ≡ note t 0
+    lands = add-mod-right (note t 0) (t .octave) ∙ mod-mod (0 * t .interval) (t .octave)
 
-    back : (h N : ℕ) → h + N - h ≡ N
-    back h N = omega arith
-
-    none : (i : ℕ) → i ≡ 0 → way t 0 i ≡ 0
-    none i e = ap (λ (x : ℕ). way t 0 x) e ∙ ap (λ (x : ℕ). x % t .octave) (back (note t 0) (t .octave)) ∙ mod-self (t .octave)
+    least : (i : ℕ) → i < t .notes → (way t 0 i ≡ 0) ⊎ (t .octave ≤ way t 0 i)
+    least i there =
+        let first : i ≡ 0 = omega arith in
+        inl (way-to-same (way-goes t pos 0 i) (way-short t pos 0 i) (sym first))
 
 -- every note of a taken tuning has a step and a next note
 pub goes-on : (t : Tuning) → Taken t → (k : ℕ) → k < t .notes → (s : ℕ) × (j : ℕ) × Goes t k s j
@@ -132,3 +144,33 @@ goes-on t T k k-there =
         | below there ↦ (_, _, goes-below B k k-there there)
       ]
     ]
+
+pub steps-by-basis : Steps-by-basis
+steps-by-basis t B k there = (
+  λ on. let G = goes-above B k on in (G .far, G .to),
+  λ far near. let G = goes-both B k far near in (G .far, G .to),
+  λ back. let G = goes-below B k there back in (G .far, G .to),
+)
+
+pub step-alone : Step-alone
+step-alone t pos one = let G = alone t pos one in (G .far, G .to)
+
+pub basis-told : Basis-told
+basis-told t B =
+    let up = goes-above B 0 (omega (arith, B .a-there)) .far in
+    let down = goes-below B (B .basis .b) (B .b-there) (omega arith) .far in
+    (next-zero B, before-is B, up, down)
+
+pub by-rules : By-rules
+unfolding By-rules
+by-rules t k T many there =
+    let B = basis-exists t T many in
+    let above : next t 0 - 1 ≡ B .basis .a = omega (arith, next-zero B) in
+    let below : before t - 1 ≡ B .basis .b = omega (arith, before-is B) in (
+      omega (arith, B .basis .some-a),
+      omega (arith, B .basis .some-b),
+      omega (arith, B .reach),
+      λ on. omega (arith, goes-above B k (omega arith) .to),
+      λ far near. omega (arith, goes-both B k (omega arith) (omega arith) .to),
+      λ far back. omega (arith, goes-below B k there (omega arith) .to),
+    )

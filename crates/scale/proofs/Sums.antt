@@ -1,15 +1,16 @@
 -- Something done with every step in turn, be it to add them up, to count some of them or to list their sizes, is done n - a times with u, then
 -- a + b - n times with u + d, and then n - b times with d.
-use mathlib.Core.Path.{_≡_, refl, sym, ap, _∙_}
-use mathlib.Core.List.{List, []}
+use mathlib.Core.Path.{_≡_, refl, ap, _∙_}
+use mathlib.Core.List.{[]}
 use Prim.Native.Nat.{ℕ, zero, suc, _+_, _*_, _-_, _≤_, _<_}
 use native.Mathlib.Nat.{add-zero}
 use native.Mathlib.Omega.{arith}
 use lib.Dec.{eqb}
 use Rattle.scale.specs.Notes.{pick, Tuning, step, so-large, put-in, sizes-in}
-use Rattle.scale.specs.Promise.{all-steps}
+use Rattle.scale.specs.Promise.{all-steps, Go-round}
 use Rattle.scale.specs.Basis.{Basis, Basis-of}
-use Rattle.scale.proofs.Steps.{Goes, goes-above, goes-both, goes-below, alone}
+use Rattle.scale.proofs.Growth.{one-note, has-basis, one-or-more}
+use Rattle.scale.proofs.Steps.{goes-above, goes-both, goes-below, alone}
 
 module _ {A : Type 0} where
   -- f done with each of the first m steps
@@ -49,10 +50,13 @@ module _ {A : Type 0} where
         let first : x ≡ 0 + x = omega arith in
         let all : t .notes ≡ x + w + y = omega (arith, B .reach, B .a-there, B .b-there) in
         let up-to-b : x + w ≡ b = omega (arith, B .reach, B .a-there) in
+        let ups = stretch f z t u 0 x (λ k from below. goes-above B k (omega arith) .far) in
+        let boths = stretch f z t (u + d) x w (λ k from below. goes-both B k (omega arith) (omega arith) .far) in
+        let downs = stretch f z t d (x + w) y (λ k from below. goes-below B k (omega arith) (omega arith) .far) in
         ap (over-steps f z t) all
-        ∙ stretch f z t d (x + w) y (λ k from below. goes-below B k (omega arith) (omega arith) .far)
-        ∙ ap (times y (f d)) (stretch f z t (u + d) x w (λ k from below. goes-both B k (omega arith) (omega arith) .far))
-        ∙ ap (λ (l : A). times y (f d) (times w (f (u + d)) l)) (ap (over-steps f z t) first ∙ stretch f z t u 0 x (λ k from below. goes-above B k (omega arith) .far))
+        ∙ downs
+        ∙ ap (times y (f d)) boths
+        ∙ ap (λ (l : A). times y (f d) (times w (f (u + d)) l)) (ap (over-steps f z t) first ∙ ups)
 
   -- with one note there is the octave alone
   pub over-one : (t : Tuning) → 0 < t .octave → t .notes ≡ 1 → (f : ℕ → A → A) (z : A) → over-steps f z t (t .notes) ≡ f (t .octave) z
@@ -85,7 +89,8 @@ module _ {t : Tuning} (B : Basis-of t) where
   open Basis (B .basis) using (a, b, u, d)
 
   -- the sum of what f makes of each step
-  pub sum-all : (f : ℕ → ℕ) → over-steps (λ (s l : ℕ). f s + l) 0 t (t .notes) ≡ (t .notes - a) * f u + (a + b - t .notes) * f (u + d) + (t .notes - b) * f d
+  pub sum-all : (f : ℕ → ℕ) →
+      over-steps (λ (s l : ℕ). f s + l) 0 t (t .notes) ≡ (t .notes - a) * f u + (a + b - t .notes) * f (u + d) + (t .notes - b) * f d
   sum-all f =
       let x : ℕ = t .notes - a in
       let w : ℕ = a + b - t .notes in
@@ -96,8 +101,8 @@ module _ {t : Tuning} (B : Basis-of t) where
       let ey = added y (f d) (times w (λ (l : ℕ). f (u + d) + l) (times x (λ (l : ℕ). f u + l) 0)) in
       omega arith
 
-  -- all steps together are an octave
-  pub steps-together : all-steps t (t .notes) ≡ t .octave
+  -- n - a and a + b - n are b, and a + b - n and n - b are a
+  steps-together : all-steps t (t .notes) ≡ t .octave
   steps-together =
       let x : ℕ = t .notes - a in
       let w : ℕ = a + b - t .notes in
@@ -106,5 +111,10 @@ module _ {t : Tuning} (B : Basis-of t) where
       let downs : w + y ≡ a = omega (arith, B .reach, B .b-there) in
       omega (arith, all-steps-over t (t .notes), sum-all (λ (s : ℕ). s), B .basis .whole, ap (λ (v : ℕ). v * u) ups, ap (λ (v : ℕ). v * d) downs)
 
-pub step-alone : (t : Tuning) → 0 < t .octave → t .notes ≡ 1 → all-steps t (t .notes) ≡ t .octave
-step-alone t pos one = all-steps-over t (t .notes) ∙ over-one t pos one (λ (s l : ℕ). s + l) 0 ∙ add-zero (t .octave)
+pub go-round : Go-round
+unfolding Go-round
+go-round t T =
+    elim (one-or-more t T) [
+      | one-note pos one ↦ all-steps-over t (t .notes) ∙ over-one t pos one (λ (s l : ℕ). s + l) 0 ∙ add-zero (t .octave)
+      | has-basis B ↦ steps-together B
+    ]

@@ -1,6 +1,6 @@
 -- A whole scale: after m steps from note k one stands at note k + m a, but for so many times n, and has made as many steps of size d as those
 -- times. For two notes this number differs by one at most, and so do the spans, by one step of the one size in place of one of the other.
-use mathlib.Core.Path.{_≡_, ap}
+use mathlib.Core.Path.{_≡_, ap, _∙_}
 use mathlib.Core.Logic.{_⊎_, inl, inr}
 use mathlib.Core.Bool.{false}
 use mathlib.Core.List.{List}
@@ -8,15 +8,18 @@ use Prim.Native.Nat.{ℕ, zero, suc, _+_, _*_, _-_, _≤_, _<_}
 use native.Mathlib.Nat.{lt-of-mul-lt-mul-right}
 use native.Mathlib.Omega.{arith}
 use lib.ListN.{length, getD}
-use Rattle.std.proofs.shelf.Tests.{cases-lt, cases-order}
-use Rattle.scale.specs.Notes.{Tuning, next}
-use Rattle.scale.specs.Promise.{span}
+use Rattle.std.proofs.shelf.Tests.{cases-lt, cases-order, le-ltb}
+use Rattle.scale.specs.Notes.{Tuning, next, sizes}
+use Rattle.scale.specs.Promise.{span, Spans}
 use Rattle.scale.specs.Basis.{Basis, Basis-of}
-use Rattle.scale.proofs.Steps.{Goes, goes-above, goes-below}
-use Rattle.scale.proofs.Sizes.{in-order, in-order-less, in-order-same, in-order-more}
+use Rattle.scale.specs.Laws.{in-order}
+use Rattle.scale.proofs.Growth.{basis-exists}
+use Rattle.scale.proofs.Steps.{goes-above, goes-below}
+use Rattle.scale.proofs.Sizes.{sizes-are, in-order-less, in-order-same, in-order-more}
+use Rattle.scale.proofs.Whole.{whole-as-sum}
 
 -- two spans are the same, or the one has a step of size d where the other has one of size u
-abbrev pub Near : ℕ → ℕ → ℕ → ℕ → Type 0
+abbrev Near : ℕ → ℕ → ℕ → ℕ → Type 0
 Near u d v w = (v ≡ w) ⊎ ((v + d ≡ w + u) ⊎ (v + u ≡ w + d))
 
 module _ {t : Tuning} (B : Basis-of t) where
@@ -70,7 +73,7 @@ module _ {t : Tuning} (B : Basis-of t) where
     one-more-at-most : (m j k : ℕ) (V : Walk j m) (W : Walk k m) → j < t .notes → V .c < 2 + W .c
     one-more-at-most m j k V W there = lt-of-mul-lt-mul-right (t .notes) {m = V .c} {n = 2 + W .c} (omega (arith, V .ends, W .ends, W .r-there))
 
-    pub spans-near : (m j k : ℕ) → j < t .notes → k < t .notes → Near u d (span t j m) (span t k m)
+    spans-near : (m j k : ℕ) → j < t .notes → k < t .notes → Near u d (span t j m) (span t k m)
     spans-near m j k j-there k-there =
         let V = walk m j j-there in
         let W = walk m k k-there in
@@ -89,10 +92,10 @@ module _ {t : Tuning} (B : Basis-of t) where
         ]
 
 -- two sizes at most, and two spans that are the same or differ by as much as the sizes
-abbrev pub Two-sizes : List ℕ → ℕ → ℕ → Type 0
+abbrev Two-sizes : List ℕ → ℕ → ℕ → Type 0
 Two-sizes xs v w = (length xs ≤ 2) × ((v ≡ w) ⊎ ((v + (getD xs 1 0 - getD xs 0 0) ≡ w) ⊎ (w + (getD xs 1 0 - getD xs 0 0) ≡ v)))
 
-pub near-two : (u d v w : ℕ) → Near u d v w → Two-sizes (in-order u d false) v w
+near-two : (u d v w : ℕ) → Near u d v w → Two-sizes (in-order u d false) v w
 near-two u d v w near =
     elim (cases-order u d) [
       | inl same ↦ rw (in-order-same u d false same) (omega arith, inl (omega arith))
@@ -113,3 +116,12 @@ near-two u d v w near =
         ],
       )
     ]
+
+pub spans : Spans
+unfolding Spans
+spans t j k n T whole many j-there k-there few =
+    let B = basis-exists t T many in
+    let all : t .notes ≡ B .basis .a + B .basis .b = whole-as-sum B .0 whole in
+    let fits = le-ltb (t .notes) (B .basis .a + B .basis .b) (omega arith) in
+    let two : sizes t ≡ in-order (B .basis .u) (B .basis .d) false = sizes-are B ∙ ap (in-order (B .basis .u) (B .basis .d)) fits in
+    rw two (near-two (B .basis .u) (B .basis .d) (span t j n) (span t k n) (spans-near B all n j k j-there k-there))

@@ -34,6 +34,9 @@ module _ {N g k j w : ℕ} (W : Way N g k j w) where
   pub way-to-same : w < N → k ≡ j → w ≡ 0
   way-to-same short same = same-below N w 0 (W .c) (W .e) short (omega arith) (omega (arith, W .is, ap (λ (x : ℕ). x * g) same))
 
+abbrev pub Way-in : Tuning → ℕ → ℕ → ℕ → Type 0
+Way-in t = Way (t .octave) (t .interval)
+
 -- the way as the definitions measure it
 abbrev pub way : Tuning → ℕ → ℕ → ℕ
 way t k j = (note t j + t .octave - note t k) % t .octave
@@ -63,7 +66,7 @@ module _ (t : Tuning) (pos : 0 < t .octave) where
           let f : (x + N - y) % N ≡ x + N - y = mod-eq-of-lt (omega arith) in
           omega arith
 
-  pub way-goes : (k j : ℕ) → Way (t .octave) (t .interval) k j (way t k j)
+  pub way-goes : (k j : ℕ) → Way-in t k j (way t k j)
   way-goes k j =
       let from = mod-add-div' (k * t .interval) (t .octave) in
       let to = mod-add-div' (j * t .interval) (t .octave) in
@@ -77,12 +80,12 @@ module _ (t : Tuning) (pos : 0 < t .octave) where
       ]
 
   -- every way shorter than an octave is so measured, and leads where it should
-  pub way-is : (k j w : ℕ) → w < t .octave → Way (t .octave) (t .interval) k j w → way t k j ≡ w
+  pub way-is : (k j w : ℕ) → w < t .octave → Way-in t k j w → way t k j ≡ w
   way-is k j w short W =
       let V = way-goes k j in
       same-below (t .octave) (way t k j) w (V .c + W .e) (W .c + V .e) (way-short k j) short (omega (arith, W .is, V .is))
 
-  pub way-lands : (k j w : ℕ) → Way (t .octave) (t .interval) k j w → (note t k + w) % t .octave ≡ note t j
+  pub way-lands : (k j w : ℕ) → Way-in t k j w → (note t k + w) % t .octave ≡ note t j
   way-lands k j w W =
       mod-add-mod (k * t .interval) (t .octave) w
       ∙ sym (add-mul-mod-self-right (k * t .interval + w) (W .c) (t .octave))

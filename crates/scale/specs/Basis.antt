@@ -5,8 +5,8 @@ use mathlib.Core.Logic.{_≢_}
 use Prim.Native.Nat.{ℕ, _+_, _*_, _≤_, _<_}
 use Rattle.scale.specs.Notes.{Tuning, note}
 
--- In an octave of N units, with an interval of g: note a is u above note 0 once p octaves are left out, note b is d below it once q octaves are filled
--- up, and a times d and b times u are an octave.
+-- In an octave of N units, with an interval of g: a intervals are p octaves and u units more, so that note a is u above note 0; b intervals are d
+-- units short of q octaves, so that note b is d below it; and a times d and b times u together are the octave.
 pub record Basis (N g : ℕ) : Type 0 where
   pub a : ℕ
   pub b : ℕ
@@ -22,7 +22,7 @@ pub record Basis (N g : ℕ) : Type 0 where
   pub some-u : 0 < u
   pub some-d : 0 < d
 
--- The basis of a tuning: both of its notes are there, and their numbers add up to at least as many as there are notes.
+-- The basis of a tuning: both notes are there, and their numbers together are at least as many as there are notes.
 pub record Basis-of (t : Tuning) : Type 0 where
   pub basis : Basis (t .octave) (t .interval)
   pub a-there : basis .a < t .notes

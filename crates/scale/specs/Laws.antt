@@ -1,11 +1,12 @@
 -- Laws of generated scales on which the parts of the desk stand. Each is a statement, a type whose proof is owed: it is proved once the contract of a
 -- function names it. Assumes nothing: these are definitions.
 use mathlib.Core.Path.{_≡_}
-use mathlib.Core.Logic.{_⊎_, _↔_}
-use mathlib.Core.Bool.{true, false}
+use mathlib.Core.Logic.{_↔_}
+use mathlib.Core.Bool.{Bool, true, false}
+use mathlib.Core.List.{List, [], _∷_}
 use Prim.Native.Nat.{ℕ, suc, _+_, _*_, _-_, _%_, _≤_, _<_}
-use lib.Dec.{eqb}
-use Rattle.scale.specs.Notes.{pick, Tuning, note, place, step, next, so-large, before, is-whole}
+use lib.Dec.{ltb, eqb}
+use Rattle.scale.specs.Notes.{pick, Tuning, note, place, step, next, so-large, sizes, before, is-whole}
 use Rattle.scale.specs.Promise.{Taken, with-notes}
 use Rattle.scale.specs.Basis.{Basis, Basis-of, All-different}
 
@@ -23,7 +24,11 @@ Basis-told =
     (t : Tuning) (B : Basis-of t) →
     (next t 0 ≡ suc (B .basis .a)) × (before t ≡ suc (B .basis .b)) × (step t 0 ≡ B .basis .u) × (step t (B .basis .b) ≡ B .basis .d)
 
--- a basis grows by k linear steps at once: v of the larger distance is left
+-- a row of bases begins with note 1 on both sides
+abbrev pub Basis-begins : Type 0
+Basis-begins = (N g : ℕ) → 0 < g → g < N → (B : Basis N g) × (B .a ≡ 1) × (B .b ≡ 1) × (B .u ≡ g) × (B .d ≡ N - g)
+
+-- and each grows out of the one before by k linear steps at once: v of the larger distance is left
 abbrev pub Basis-grows : Type 0
 Basis-grows =
     (N g : ℕ) (B : Basis N g) (k v : ℕ) → 0 < v →
@@ -34,7 +39,7 @@ Basis-grows =
 abbrev pub Interval-needed : Type 0
 Interval-needed = (t : Tuning) → 1 < t .notes → All-different t → 0 < t .interval
 
--- with one they are not all different just if the row of bases ends at u = d before it reaches them
+-- with one they are not all different just if there is a basis with u = d and a + b below the number of notes: the row ends there
 abbrev pub Repeats-just-if : Type 0
 Repeats-just-if =
     (t : Tuning) → 0 < t .interval → t .interval < t .octave → 1 < t .notes →
@@ -52,7 +57,21 @@ Steps-by-basis =
     × (t .notes ≤ k + a → k < b → (step t k ≡ u + d) × (next t k ≡ suc (k + a - b)))
     × (b ≤ k → (step t k ≡ d) × (next t k ≡ suc (k - b)))
 
--- how many steps there are of each size
+-- from one note by itself it is an octave, and the next note is the note itself
+abbrev pub Step-alone : Type 0
+Step-alone = (t : Tuning) → 0 < t .octave → t .notes ≡ 1 → (step t 0 ≡ t .octave) × (next t 0 ≡ 1)
+
+-- two sizes, and both together if there is such a step: smallest first, and equal ones once
+unfoldable pub in-order : ℕ → ℕ → Bool → List ℕ
+in-order u d both =
+    let rest : List ℕ = pick both ((u + d) ∷ []) [] in
+    pick (ltb u d) (u ∷ (d ∷ rest)) (pick (eqb u d) (u ∷ rest) (d ∷ (u ∷ rest)))
+
+-- which sizes of steps there are
+abbrev pub Sizes-listed : Type 0
+Sizes-listed = (t : Tuning) (B : Basis-of t) → sizes t ≡ in-order (B .basis .u) (B .basis .d) (ltb (t .notes) (B .basis .a + B .basis .b))
+
+-- and how many steps there are of each
 abbrev pub Steps-counted : Type 0
 Steps-counted =
     (t : Tuning) (B : Basis-of t) (s : ℕ) →
@@ -82,7 +101,7 @@ Next-place =
 
 -- places go by height
 abbrev pub Places-by-height : Type 0
-Places-by-height = (t : Tuning) (j k : ℕ) → Taken t → j < t .notes → k < t .notes → (place t j < place t k) ↔ (note t j < note t k)
+Places-by-height = (t : Tuning) (j k : ℕ) → j < t .notes → k < t .notes → (place t j < place t k) ↔ (note t j < note t k)
 
 -- two notes have different places
 abbrev pub Places-differ : Type 0

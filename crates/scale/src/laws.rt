@@ -1,6 +1,8 @@
 // What holds of every scale. These functions do nothing: their contracts are the theorems, and proofs/Theorems.antt leads to the proofs.
 ghost use Rattle.scale.specs.Promise.{Three-at-most, Go-round, By-rules, One-more, Downwards, Spans};
-ghost use Rattle.scale.specs.Laws.{No-note-nearer, Basis-exists, Basis-told, Basis-grows, Interval-needed, Repeats-just-if, Steps-by-basis, Steps-counted, Whole-just-if, First-whole, Next-place, Places-by-height, Places-differ, Places-filled};
+ghost use Rattle.scale.specs.Laws.{No-note-nearer, Basis-exists, Basis-told, Basis-begins, Basis-grows, Interval-needed, Repeats-just-if};
+ghost use Rattle.scale.specs.Laws.{Steps-by-basis, Step-alone, Sizes-listed, Steps-counted, Whole-just-if, First-whole};
+ghost use Rattle.scale.specs.Laws.{Next-place, Places-by-height, Places-differ, Places-filled};
 ghost use Rattle.scale.specs.Scales.{Five-fifths, Seven-fifths, Seven-in-twelve};
 
 // There are at most three sizes of steps, and if there are three the largest is the other two together.
@@ -39,14 +41,17 @@ pub fn basis_laws()
     ensures nearest { λ _. ⌜ No-note-nearer ⌝ }
     ensures exists { λ _. ⌜ Basis-exists ⌝ }
     ensures told { λ _. ⌜ Basis-told ⌝ }
+    ensures begins { λ _. ⌜ Basis-begins ⌝ }
     ensures grows { λ _. ⌜ Basis-grows ⌝ }
     ensures needed { λ _. ⌜ Interval-needed ⌝ }
     ensures repeats { λ _. ⌜ Repeats-just-if ⌝ }
 {}
 
-// From them the step of every note and its next, and how many steps there are of each size.
+// From them the step of every note and its next, the sizes of steps, and how many there are of each.
 pub fn step_laws()
     ensures steps { λ _. ⌜ Steps-by-basis ⌝ }
+    ensures alone { λ _. ⌜ Step-alone ⌝ }
+    ensures sizes { λ _. ⌜ Sizes-listed ⌝ }
     ensures counted { λ _. ⌜ Steps-counted ⌝ }
 {}
 
