@@ -14,7 +14,7 @@ use Rattle.scale.specs.Basis.{Basis, Basis-of}
 use Rattle.scale.specs.Laws.{in-order}
 use Rattle.scale.proofs.Basis.{octave-some, fits}
 use Rattle.scale.proofs.Growth.{one-note, has-basis, one-or-more}
-use Rattle.scale.proofs.Sizes.{sizes-are, so-many, one-size, so-many-of-one}
+use Rattle.scale.proofs.Sizes.{sizes-listed, steps-counted, sizes-alone, steps-counted-alone}
 
 module _ {N g : ℕ} (f : ℕ) (mirror : g + f ≡ N) (B : Basis N g) where
   open Basis B using (a, b, u, d, p, q)
@@ -78,20 +78,20 @@ module _ {t : Tuning} (small : t .interval < t .octave) (B : Basis-of t) where
   unfolding mirrored basis-down
   sizes-down =
       let sum : ltb (t .notes) (b + a) ≡ ltb (t .notes) (a + b) = ap (ltb (t .notes)) (add-comm b a) in
-      sizes-are basis-down ∙ ap (in-order d u) sum ∙ mirrored-order u d (ltb (t .notes) (a + b)) ∙ sym (sizes-are B)
+      sizes-listed (down t) basis-down ∙ ap (in-order d u) sum ∙ mirrored-order u d (ltb (t .notes) (a + b)) ∙ sym (sizes-listed t B)
 
-  pub so-many-down : (s : ℕ) → so-large (down t) s (t .notes) ≡ so-large t s (t .notes)
+  pub steps-counted-down : (s : ℕ) → so-large (down t) s (t .notes) ≡ so-large t s (t .notes)
   unfolding mirrored basis-down
-  so-many-down s =
+  steps-counted-down s =
       let sum : d + u ≡ u + d = add-comm d u in
       let more : b + a - t .notes ≡ a + b - t .notes = omega arith in
-      omega (arith, so-many B s, rw (sum, more) at (so-many basis-down s))
+      omega (arith, steps-counted t B s, rw (sum, more) at (steps-counted (down t) basis-down s))
 
 pub downwards : Downwards
 unfolding Downwards Taken
 downwards t s T some =
     elim (one-or-more t T) [
       | one-note pos one ↦
-          (one-size (down t) pos one ∙ sym (one-size t pos one), so-many-of-one (down t) s pos one ∙ sym (so-many-of-one t s pos one))
-      | has-basis B ↦ (sizes-down (T .2) B, so-many-down (T .2) B s)
+          (sizes-alone (down t) pos one ∙ sym (sizes-alone t pos one), steps-counted-alone (down t) s pos one ∙ sym (steps-counted-alone t s pos one))
+      | has-basis B ↦ (sizes-down (T .2) B, steps-counted-down (T .2) B s)
     ]

@@ -8,7 +8,7 @@ use Rattle.std.proofs.shelf.Tests.{cases-lt, cases-order}
 use Rattle.scale.specs.Notes.{Tuning, note, up-to, place, next}
 use Rattle.scale.specs.Promise.{Taken}
 use Rattle.scale.specs.Basis.{All-different}
-use Rattle.scale.specs.Laws.{Next-place, Places-by-height, Places-differ, Places-filled}
+use Rattle.scale.specs.Laws.{Next-place, Places-differ, Places-filled}
 use Rattle.scale.proofs.Growth.{note-zero}
 use Rattle.scale.proofs.Ways.{note-low, way-to-higher, way-to-lower}
 use Rattle.scale.proofs.Steps.{Goes, same-note, goes-on}
@@ -27,8 +27,8 @@ module _ (t : Tuning) where
   place-rises j k j-there k-there less =
       omega (arith, place-counts j j-there, place-counts k k-there, rises-over t (note t j) (note t k) k (t .notes) k-there less (omega arith))
 
-  place-by-height : (j k : ℕ) → j < t .notes → k < t .notes → (place t j < place t k) ↔ (note t j < note t k)
-  place-by-height j k j-there k-there = (
+  pub places-by-height : (j k : ℕ) → j < t .notes → k < t .notes → (place t j < place t k) ↔ (note t j < note t k)
+  places-by-height j k j-there k-there = (
     λ less. elim (cases-order (note t j) (note t k)) [
       | inl level ↦ absurd (omega (arith, ap (λ (h : ℕ). up-to t h (t .notes)) level))
       | inr (inl lower) ↦ lower
@@ -123,9 +123,6 @@ next-place t k T there =
     let (s, j, G) = goes-on t T k there in
     let e : next t k - 1 ≡ j = omega (arith, G .to) in
     (omega (arith, G .to), omega (arith, G .to, G .there), ap (place t) e ∙ place-of-next t (T .0) (T .5) k s j there G)
-
-pub places-by-height : Places-by-height
-places-by-height = place-by-height
 
 pub places-differ : Places-differ
 unfolding Taken

@@ -17,11 +17,11 @@ use Rattle.scale.specs.Range.{octave-fits, interval-fits, notes-fit}
 use Rattle.scale.specs.Promise.{Taken}
 use Rattle.scale.specs.Basis.{Basis, Basis-of, All-different}
 use Rattle.scale.specs.Laws.{in-order}
-use Rattle.scale.specs.Scales.{sizes-listed, As-many, Written-out, Five-fifths, Seven-fifths, Seven-in-twelve}
+use Rattle.scale.specs.Scales.{sizes-of, As-many, Written-out, Five-fifths, Seven-fifths, Seven-in-twelve}
 use Rattle.scale.proofs.Basis.{octave-some, height-above, height-below}
 use Rattle.scale.proofs.Growth.{basis-exists}
 use Rattle.scale.proofs.Steps.{goes-below, goes-on, next-zero}
-use Rattle.scale.proofs.Sizes.{sizes-are, so-many}
+use Rattle.scale.proofs.Sizes.{sizes-listed, steps-counted}
 use Rattle.scale.proofs.Places.{place-there, place-rises, same-place, place-zero, place-of-next}
 
 -- a test of all numbers below n, and one of some number
@@ -211,14 +211,14 @@ module _ (t : Tuning) (row : List ℕ) where
   all-told (x ∷ xs) = eqb (many-told (x .0)) (x .1) && all-told xs
 
   abbrev writes-out : List (ℕ × ℕ) → Bool
-  writes-out steps = is-row t row && (leb 2 (t .notes) && (sameBytes sizes-told (sizes-listed steps) && all-told steps))
+  writes-out steps = is-row t row && (leb 2 (t .notes) && (sameBytes sizes-told (sizes-of steps) && all-told steps))
 
 module _ {t : Tuning} {row : List ℕ} (R : Row t row) (B : Basis-of t) where
   sizes-so : sizes t ≡ sizes-told t row
-  sizes-so = rw (row-up R B, row-down R B, row-second R B, row-last R B) (sizes-are B)
+  sizes-so = rw (row-up R B, row-down R B, row-second R B, row-last R B) (sizes-listed t B)
 
   many-so : (s : ℕ) → so-large t s (t .notes) ≡ many-told t row s
-  many-so s = rw (row-up R B, row-down R B, row-second R B, row-last R B) (so-many B s)
+  many-so s = rw (row-up R B, row-down R B, row-second R B, row-last R B) (steps-counted t B s)
 
   all-so : (steps : List (ℕ × ℕ)) → all-told t row steps ≡ true → As-many t steps
   all-so [] told = tt
@@ -229,7 +229,7 @@ module _ {t : Tuning} {row : List ℕ} (R : Row t row) (B : Basis-of t) where
 -- a row of two notes or more that passes the test is the scale
 written-out : (t : Tuning) (row : List ℕ) (steps : List (ℕ × ℕ)) → writes-out t row steps ≡ true → Written-out t row steps
 written-out t row steps passed =
-    let listed : Bool = sameBytes (sizes-told t row) (sizes-listed steps) in
+    let listed : Bool = sameBytes (sizes-told t row) (sizes-of steps) in
     let p = and-parts (is-row t row) (leb 2 (t .notes) && (listed && all-told t row steps)) passed in
     let q = and-parts (leb 2 (t .notes)) (listed && all-told t row steps) (p .1) in
     let r = and-parts listed (all-told t row steps) (q .1) in
@@ -241,7 +241,7 @@ written-out t row steps passed =
       row-notes = R .there;
       places = row-places R;
       nexts = row-nexts R;
-      all-sizes = sizes-so R B ∙ sameBytes-decides (sizes-told t row) (sizes-listed steps) .0 (r .0);
+      all-sizes = sizes-so R B ∙ sameBytes-decides (sizes-told t row) (sizes-of steps) .0 (r .0);
       as-many = all-so R B steps (r .1);
     }
 

@@ -12,7 +12,7 @@ use Rattle.std.proofs.shelf.Tests.{cases-order, lt-ltb, le-ltb, eq-eqb, ne-eqb}
 use Rattle.scale.specs.Notes.{pick, Tuning, so-large, put-in, sizes}
 use Rattle.scale.specs.Promise.{Three-at-most}
 use Rattle.scale.specs.Basis.{Basis, Basis-of}
-use Rattle.scale.specs.Laws.{in-order, Sizes-listed, Steps-counted}
+use Rattle.scale.specs.Laws.{in-order}
 use Rattle.scale.proofs.Growth.{one-note, has-basis, one-or-more}
 use Rattle.scale.proofs.Sums.{times, over-all, over-one, sizes-over, so-large-over, sum-all}
 
@@ -30,10 +30,10 @@ module _ (u d : ℕ) (both : Bool) where
   in-order-more more = let other : u ≢ d = omega arith in rw (le-ltb u d (omega arith), ne-eqb u d other)
 
 -- three at most, and the largest of three is the other two together
-abbrev pub Three : List ℕ → Type 0
+abbrev Three : List ℕ → Type 0
 Three xs = (length xs ≤ 3) × (length xs ≡ 3 → getD xs 2 0 ≡ getD xs 0 0 + getD xs 1 0)
 
-pub three-in-order : (u d : ℕ) (both : Bool) → Three (in-order u d both)
+three-in-order : (u d : ℕ) (both : Bool) → Three (in-order u d both)
 three-in-order u d true =
     elim (cases-order u d) [
       | inl same ↦ rw (in-order-same u d true same) (omega arith, λ three. absurd (omega arith))
@@ -81,12 +81,12 @@ put-two u d = grind arith
 many-if : (x s m : ℕ) → m * pick (eqb x s) 1 0 ≡ pick (eqb x s) m 0
 many-if x s m = grind arith
 
-module _ {t : Tuning} (B : Basis-of t) where
+module _ (t : Tuning) (B : Basis-of t) where
   open Basis (B .basis) using (a, b, u, d)
 
-  pub sizes-are : sizes t ≡ in-order u d (ltb (t .notes) (a + b))
+  pub sizes-listed : sizes t ≡ in-order u d (ltb (t .notes) (a + b))
   unfolding times
-  sizes-are =
+  sizes-listed =
       sizes-over t (t .notes)
       ∙ over-all B put-in []
       ∙ put-often (t .notes - b) d (times (a + b - t .notes) (put-in (u + d)) (times (t .notes - a) (put-in u) [])) (omega (arith, B .b-there))
@@ -100,34 +100,27 @@ module _ {t : Tuning} (B : Basis-of t) where
           ∙ put-three u d (B .basis .some-u) (B .basis .some-d)
           ∙ ap (in-order u d) (sym (lt-ltb (t .notes) (a + b) (omega arith)))
 
-  -- how many there are of a size
-  pub so-many : (s : ℕ) →
+  pub steps-counted : (s : ℕ) →
       so-large t s (t .notes) ≡ pick (eqb u s) (t .notes - a) 0 + pick (eqb (u + d) s) (a + b - t .notes) 0 + pick (eqb d s) (t .notes - b) 0
-  so-many s =
+  steps-counted s =
       let up = many-if u s (t .notes - a) in
       let both = many-if (u + d) s (a + b - t .notes) in
       let down = many-if d s (t .notes - b) in
       omega (arith, so-large-over t s (t .notes), sum-all B (λ (x : ℕ). pick (eqb x s) 1 0))
 
 -- with one note there is one step
-pub one-size : (t : Tuning) → 0 < t .octave → t .notes ≡ 1 → sizes t ≡ t .octave ∷ []
+pub sizes-alone : (t : Tuning) → 0 < t .octave → t .notes ≡ 1 → sizes t ≡ t .octave ∷ []
 unfolding put-in
-one-size t pos one = sizes-over t (t .notes) ∙ over-one t pos one put-in []
+sizes-alone t pos one = sizes-over t (t .notes) ∙ over-one t pos one put-in []
 
-pub so-many-of-one : (t : Tuning) (s : ℕ) → 0 < t .octave → t .notes ≡ 1 → so-large t s (t .notes) ≡ pick (eqb (t .octave) s) 1 0
-so-many-of-one t s pos one =
+pub steps-counted-alone : (t : Tuning) (s : ℕ) → 0 < t .octave → t .notes ≡ 1 → so-large t s (t .notes) ≡ pick (eqb (t .octave) s) 1 0
+steps-counted-alone t s pos one =
     so-large-over t s (t .notes) ∙ over-one t pos one (λ (x l : ℕ). pick (eqb x s) 1 0 + l) 0 ∙ add-zero (pick (eqb (t .octave) s) 1 0)
-
-pub sizes-listed : Sizes-listed
-sizes-listed t B = sizes-are B
-
-pub steps-counted : Steps-counted
-steps-counted t B = so-many B
 
 pub three-at-most : Three-at-most
 unfolding Three-at-most
 three-at-most t T =
     elim (one-or-more t T) [
-      | one-note pos one ↦ rw (one-size t pos one) (omega arith, λ three. absurd (omega arith))
-      | has-basis B ↦ rw (sizes-are B) (three-in-order (B .basis .u) (B .basis .d) (ltb (t .notes) (B .basis .a + B .basis .b)))
+      | one-note pos one ↦ rw (sizes-alone t pos one) (omega arith, λ three. absurd (omega arith))
+      | has-basis B ↦ rw (sizes-listed t B) (three-in-order (B .basis .u) (B .basis .d) (ltb (t .notes) (B .basis .a + B .basis .b)))
     ]

@@ -15,7 +15,7 @@ use Rattle.scale.specs.Basis.{Basis, Basis-of}
 use Rattle.scale.specs.Laws.{in-order}
 use Rattle.scale.proofs.Growth.{basis-exists}
 use Rattle.scale.proofs.Steps.{goes-above, goes-below}
-use Rattle.scale.proofs.Sizes.{sizes-are, in-order-less, in-order-same, in-order-more}
+use Rattle.scale.proofs.Sizes.{sizes-listed, in-order-less, in-order-same, in-order-more}
 use Rattle.scale.proofs.Whole.{whole-as-sum}
 
 -- two spans are the same, or the one has a step of size d where the other has one of size u
@@ -123,5 +123,5 @@ spans t j k n T whole many j-there k-there few =
     let B = basis-exists t T many in
     let all : t .notes ≡ B .basis .a + B .basis .b = whole-as-sum B .0 whole in
     let fits = le-ltb (t .notes) (B .basis .a + B .basis .b) (omega arith) in
-    let two : sizes t ≡ in-order (B .basis .u) (B .basis .d) false = sizes-are B ∙ ap (in-order (B .basis .u) (B .basis .d)) fits in
+    let two : sizes t ≡ in-order (B .basis .u) (B .basis .d) false = sizes-listed t B ∙ ap (in-order (B .basis .u) (B .basis .d)) fits in
     rw two (near-two (B .basis .u) (B .basis .d) (span t j n) (span t k n) (spans-near B all n j k j-there k-there))

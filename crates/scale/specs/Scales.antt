@@ -8,9 +8,9 @@ use Rattle.scale.specs.Notes.{Tuning, place, next, so-large, sizes}
 use Rattle.scale.specs.Promise.{Taken}
 
 -- each pair is a size and how many steps have it
-abbrev pub sizes-listed : List (ℕ × ℕ) → List ℕ
-sizes-listed [] = []
-sizes-listed (x ∷ xs) = x .0 ∷ sizes-listed xs
+abbrev pub sizes-of : List (ℕ × ℕ) → List ℕ
+sizes-of [] = []
+sizes-of (x ∷ xs) = x .0 ∷ sizes-of xs
 
 abbrev pub As-many : Tuning → List (ℕ × ℕ) → Type 0
 As-many t [] = Unit {0}
@@ -23,7 +23,7 @@ pub record Written-out (t : Tuning) (row : List ℕ) (steps : List (ℕ × ℕ))
   pub row-notes : (i : ℕ) → i < t .notes → getD row i 0 < t .notes
   pub places : (i : ℕ) → i < t .notes → place t (getD row i 0) ≡ i
   pub nexts : (i : ℕ) → i < t .notes → next t (getD row i 0) ≡ suc (getD row (suc i % t .notes) 0)
-  pub all-sizes : sizes t ≡ sizes-listed steps
+  pub all-sizes : sizes t ≡ sizes-of steps
   pub as-many : As-many t steps
 
 abbrev tuning : ℕ → ℕ → ℕ → Tuning
