@@ -1,4 +1,5 @@
--- No note of the first a + b is nearer to note 0 than the two notes of a basis. So between any two of them it is u up at least, or d.
+-- Of notes 1 to a + b - 1 none is less than u above note 0, and none less than d below it. So, of any two of the first a + b notes, it is at least u up
+-- to the one with the larger number, and at least d up to the other.
 use mathlib.Core.Path.{_≡_, sym, ap}
 use mathlib.Core.Logic.{inl, inr, _≢_}
 use Prim.Native.Nat.{ℕ, suc, _+_, _*_, _-_, _/_, _%_, _≤_, _<_}
@@ -14,17 +15,17 @@ use Rattle.scale.proofs.Ways.{Way, way-from-zero, way-to-zero}
 -- are exchanged. Either h is u times x and some more, or i is a times x and b times y, with x and y above 0.
 nearest : (N a b u d i h x m k : ℕ) → 0 < N → a * d + b * u ≡ N → i * d + h * b ≡ x * N → 0 < x → i * u + m * N ≡ a * h + k * N → i < a + b →
     u ≤ h
-nearest N a b u d i h x m k pos whole ex some apart first =
+nearest N a b u d i h x m k pos fills ex some apart first =
     elim (cases-lt (a * h) (i * u)) [
       | inr few ↦
           let z = octaves-above N (a * h) (i * u) k m pos (sym apart) few in
-          let h-whole = ap (λ (v : ℕ). h * v) whole in
+          let h-fills = ap (λ (v : ℕ). h * v) fills in
           let e : h * N ≡ (u * x + z .0 * d) * N = omega (arith, ap (λ (v : ℕ). v * d) (z .1), ap (λ (v : ℕ). v * u) ex) in
           omega (arith, eq-of-mul-eq-mul-right N pos h (u * x + z .0 * d) e, mul-le-mul-left u some)
       | inl many ↦
           let y = octaves-above N (i * u) (a * h) m k pos apart (omega arith) in
           let more : 0 < y .0 = some-octaves N (y .0) (i * u - a * h) (omega arith) (omega (arith, y .1)) in
-          let i-whole = ap (λ (v : ℕ). i * v) whole in
+          let i-fills = ap (λ (v : ℕ). i * v) fills in
           let e : i * N ≡ (a * x + b * y .0) * N = omega (arith, ap (λ (v : ℕ). v * b) (y .1), ap (λ (v : ℕ). v * a) ex) in
           omega (arith, eq-of-mul-eq-mul-right N pos i (a * x + b * y .0) e, mul-le-mul-left a some, mul-le-mul-left b more)
     ]
@@ -33,14 +34,14 @@ module _ {N g : ℕ} (B : Basis N g) where
   open Basis B using (a, b, u, d, p, q)
 
   pub octave-some : 0 < N
-  octave-some = omega (arith, B .whole, mul-pos (B .some-a) (B .some-d))
+  octave-some = omega (arith, B .fills, mul-pos (B .some-a) (B .some-d))
 
   -- u and d together fit into the octave, and fill it for a = b = 1 alone
   pub fits : u + d ≤ N
-  fits = omega (arith, B .whole, mul-le-mul-right d (B .some-a), mul-le-mul-right u (B .some-b))
+  fits = omega (arith, B .fills, mul-le-mul-right d (B .some-a), mul-le-mul-right u (B .some-b))
 
-  pub fits-below : 2 < a + b → u + d < N
-  fits-below more =
+  pub fits-short : 2 < a + b → u + d < N
+  fits-short more =
       elim (cases-lt 1 a) [
         | inl two ↦ omega (arith, B, mul-le-mul-right d two, mul-le-mul-right u (B .some-b))
         | inr one ↦
@@ -48,7 +49,7 @@ module _ {N g : ℕ} (B : Basis N g) where
             omega (arith, B, mul-le-mul-right d (B .some-a), mul-le-mul-right u two)
       ]
 
-  -- the ways along the chain that it gives from every note
+  -- the ways that it gives from every note
   pub way-above : (k : ℕ) → Way N g k (k + a) u
   way-above k = record { c = p; e = 0; is = omega (arith, B .above) }
 
@@ -67,7 +68,7 @@ module _ {N g : ℕ} (B : Basis N g) where
       let b-down = ap (λ (v : ℕ). i * v) (B .below) in
       let x = octaves-above N (i * d + h * b) 0 (b * W .c) (i * q + b * W .e) octave-some (omega arith) (omega arith) in
       let more = some-octaves N (x .0) (i * d + h * b) (omega (arith, mul-pos some (B .some-d))) (omega (arith, x .1)) in
-      nearest N a b u d i h (x .0) (i * p + a * W .e) (a * W .c) octave-some (B .whole) (omega (arith, x .1)) more (omega arith) first
+      nearest N a b u d i h (x .0) (i * p + a * W .e) (a * W .c) octave-some (B .fills) (omega (arith, x .1)) more (omega arith) first
 
   gap-below : (i h : ℕ) → 0 < i → i < a + b → Way N g i 0 h → d ≤ h
   gap-below i h some first W =
@@ -75,19 +76,19 @@ module _ {N g : ℕ} (B : Basis N g) where
       let down = ap (λ (v : ℕ). b * v) (W .is) in
       let a-up = ap (λ (v : ℕ). i * v) (B .above) in
       let b-down = ap (λ (v : ℕ). i * v) (B .below) in
-      let whole : b * u + a * d ≡ N = omega (arith, B .whole) in
+      let fills : b * u + a * d ≡ N = omega (arith, B .fills) in
       let x = octaves-above N (i * u + h * a) 0 (i * p + a * W .c) (a * W .e) octave-some (omega arith) (omega arith) in
       let more = some-octaves N (x .0) (i * u + h * a) (omega (arith, mul-pos some (B .some-u))) (omega (arith, x .1)) in
-      nearest N b a d u i h (x .0) (b * W .e) (i * q + b * W .c) octave-some whole (omega (arith, x .1)) more (omega arith) (omega arith)
+      nearest N b a d u i h (x .0) (b * W .e) (i * q + b * W .c) octave-some fills (omega (arith, x .1)) more (omega arith) (omega arith)
 
-  -- so it is u at least from a note up to any of the next a + b - 1 in the chain, and d at least to any of those before it
+  -- so it is at least u up to a note with a larger number, if that is larger by less than a + b, and at least d up to one with a smaller number
   pub far-later : {k j w : ℕ} → Way N g k j w → k < j → j < k + (a + b) → u ≤ w
   far-later {k} {j} {w} W later near = gap-above (j - k) w (omega arith) (omega arith) (way-from-zero W (j - k) (omega arith))
 
   pub far-earlier : {k j w : ℕ} → Way N g k j w → j < k → k < j + (a + b) → d ≤ w
   far-earlier {k} {j} {w} W earlier near = gap-below (k - j) w (omega arith) (omega arith) (way-to-zero W (k - j) (omega arith))
 
-  -- and no two of the first a + b are level
+  -- and no two of the first a + b are at the same height
   pub first-different : (i j : ℕ) → i < j → j < a + b → i * g % N ≢ j * g % N
   first-different i j less first level =
       let from = mod-add-div' (i * g) N in

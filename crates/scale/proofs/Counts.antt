@@ -42,7 +42,7 @@ module _ (t : Tuning) where
             omega (arith, one-counted h j n (omega arith) low (λ i l. others i (omega arith)), others n (omega arith) (omega arith), counted h n)
       ]
 
-  -- a note that is there counts itself
+  -- some note counts if one is that low
   pub counts-itself : (h j n : ℕ) → j < n → note t j ≤ h → 0 < up-to t h n
   counts-itself h j zero there low = absurd (omega arith)
   counts-itself h j (suc n) there low =

@@ -2,11 +2,11 @@
 -- bases that begins with note 1 on both sides reaches every number of notes, unless it ends at u = d: then note a + b is as high as note 0.
 use mathlib.Core.Path.{_≡_, refl, sym, ap, _∙_}
 use mathlib.Core.Logic.{inl, inr, _≢_}
-use Prim.Native.Nat.{ℕ, zero, suc, _+_, _*_, _-_, _%_, _<_}
-use native.Mathlib.Nat.{zero-mul, zero-mod, add-mul-mod-self-right}
+use Prim.Native.Nat.{ℕ, zero, suc, _+_, _*_, _-_, _%_, _≤_, _<_}
+use native.Mathlib.Nat.{add-mul-mod-self-right}
 use native.Mathlib.Omega.{arith}
 use Rattle.std.proofs.shelf.Tests.{cases-lt, cases-order}
-use Rattle.scale.specs.Notes.{Tuning, note}
+use Rattle.scale.specs.Notes.{Tuning}
 use Rattle.scale.specs.Promise.{Taken, with-notes}
 use Rattle.scale.specs.Basis.{Basis, Basis-of, All-different}
 use Rattle.scale.specs.Laws.{Basis-begins, Basis-grows, Basis-exists, Interval-needed, Repeats-just-if}
@@ -24,7 +24,7 @@ first-basis {N} {g} some small =
       q = 1;
       above = omega arith;
       below = omega arith;
-      whole = omega arith;
+      fills = omega arith;
       some-a = omega arith;
       some-b = omega arith;
       some-u = some;
@@ -46,7 +46,7 @@ module _ {N g : ℕ} (B : Basis N g) (k v : ℕ) where
         q = q;
         above = omega (arith, B .above, ap (λ (x : ℕ). k * x) (B .below));
         below = B .below;
-        whole = omega (arith, B .whole, ap (λ (x : ℕ). b * x) left);
+        fills = omega (arith, B .fills, ap (λ (x : ℕ). b * x) left);
         some-a = omega (arith, B .some-a);
         some-b = B .some-b;
         some-u = some;
@@ -65,7 +65,7 @@ module _ {N g : ℕ} (B : Basis N g) (k v : ℕ) where
         q = q + k * p;
         above = B .above;
         below = omega (arith, B .below, ap (λ (x : ℕ). k * x) (B .above));
-        whole = omega (arith, B .whole, ap (λ (x : ℕ). a * x) left);
+        fills = omega (arith, B .fills, ap (λ (x : ℕ). a * x) left);
         some-a = B .some-a;
         some-b = omega (arith, B .some-b);
         some-u = B .some-u;
@@ -96,8 +96,8 @@ module _ {N g : ℕ} (B : Basis N g) where
 -- what one note more does to the basis of a tuning
 pub data Grows {t : Tuning} (B : Basis-of t) : Type 0 where
   stays : t .notes < B .basis .a + B .basis .b → Grows B
-  nears-above : t .notes ≡ B .basis .a + B .basis .b → (v : ℕ) → 1 * B .basis .d + v ≡ B .basis .u → 0 < v → Grows B
-  nears-below : t .notes ≡ B .basis .a + B .basis .b → (v : ℕ) → 1 * B .basis .u + v ≡ B .basis .d → 0 < v → Grows B
+  nears-above : t .notes ≡ B .basis .a + B .basis .b → (v : ℕ) → B .basis .d + v ≡ B .basis .u → 0 < v → Grows B
+  nears-below : t .notes ≡ B .basis .a + B .basis .b → (v : ℕ) → B .basis .u + v ≡ B .basis .d → 0 < v → Grows B
   ends : t .notes ≡ B .basis .a + B .basis .b → B .basis .u ≡ B .basis .d → Grows B
 
 module _ {t : Tuning} (B : Basis-of t) where
@@ -114,23 +114,24 @@ module _ {t : Tuning} (B : Basis-of t) where
         ]
       ]
 
-  -- the basis for one note more
-  abbrev pub basis-stays : t .notes < a + b → Basis-of (with-notes t (suc (t .notes)))
-  basis-stays more = record { basis = B .basis; a-there = omega (arith, B .a-there); b-there = omega (arith, B .b-there); reach = more }
+  -- up to a + b notes the basis is the same
+  abbrev pub basis-at : (m : ℕ) → t .notes ≤ m → m ≤ a + b → Basis-of (with-notes t m)
+  basis-at m from upto = record { basis = B .basis; a-there = omega (arith, B .a-there); b-there = omega (arith, B .b-there); reach = upto }
 
-  abbrev pub basis-above : t .notes ≡ a + b → (v : ℕ) → 1 * d + v ≡ u → 0 < v → Basis-of (with-notes t (suc (t .notes)))
+  -- for one note more it is the next of the row
+  abbrev pub basis-above : t .notes ≡ a + b → (v : ℕ) → d + v ≡ u → 0 < v → Basis-of (with-notes t (suc (t .notes)))
   basis-above all v left some =
       record {
-        basis = nearer-above (B .basis) 1 v left some;
+        basis = nearer-above (B .basis) 1 v (omega arith) some;
         a-there = omega arith;
         b-there = omega (arith, B .b-there);
         reach = omega (arith, B .basis .some-b);
       }
 
-  abbrev pub basis-below : t .notes ≡ a + b → (v : ℕ) → 1 * u + v ≡ d → 0 < v → Basis-of (with-notes t (suc (t .notes)))
+  abbrev pub basis-below : t .notes ≡ a + b → (v : ℕ) → u + v ≡ d → 0 < v → Basis-of (with-notes t (suc (t .notes)))
   basis-below all v left some =
       record {
-        basis = nearer-below (B .basis) 1 v left some;
+        basis = nearer-below (B .basis) 1 v (omega arith) some;
         a-there = omega (arith, B .a-there);
         b-there = omega arith;
         reach = omega (arith, B .basis .some-a);
@@ -150,7 +151,7 @@ module _ (t : Tuning) (some : 0 < t .interval) (small : t .interval < t .octave)
       elim (row-of (suc (suc m)) (omega arith)) [
         | repeats B same early ↦ repeats B same (omega arith)
         | reached B ↦ elim (grows B) [
-          | stays more ↦ reached (basis-stays B more)
+          | stays more ↦ reached (basis-at B _ (omega arith) more)
           | nears-above all v left some ↦ reached (basis-above B all v left some)
           | nears-below all v left some ↦ reached (basis-below B all v left some)
           | ends all same ↦ repeats (B .basis) same (omega arith)
@@ -174,10 +175,7 @@ repeats-just-if t some small many = (
   λ end. not-all-different (end .0) (end .1) (t .notes) (end .2),
 )
 
-pub note-zero : (t : Tuning) → note t 0 ≡ 0
-note-zero t = ap (λ (x : ℕ). x % t .octave) (zero-mul (t .interval)) ∙ zero-mod (t .octave)
-
--- without an interval note 1 is as high as note 0
+-- if the interval is 0, note 1 is as high as note 0
 pub interval-needed : Interval-needed
 interval-needed t many differ =
     elim (cases-lt 0 (t .interval)) [

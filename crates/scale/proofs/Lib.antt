@@ -13,5 +13,6 @@ pub mod Whole
 pub mod Walks
 pub mod Counts
 pub mod Places
+pub mod Below
 pub mod Rows
 pub mod Theorems

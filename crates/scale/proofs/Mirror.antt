@@ -14,22 +14,22 @@ use Rattle.scale.specs.Basis.{Basis, Basis-of}
 use Rattle.scale.specs.Laws.{in-order}
 use Rattle.scale.proofs.Basis.{octave-some, fits}
 use Rattle.scale.proofs.Growth.{one-note, has-basis, one-or-more}
-use Rattle.scale.proofs.Sizes.{sizes-listed, steps-counted, sizes-alone, steps-counted-alone}
+use Rattle.scale.proofs.Sizes.{sizes-listed, steps-counted, note-alone}
 
 module _ {N g : ℕ} (f : ℕ) (mirror : g + f ≡ N) (B : Basis N g) where
   open Basis B using (a, b, u, d, p, q)
 
-  -- note b, which goes round q times up, goes round b - q times down
-  pub turns-below : (x : ℕ) × (q + x ≡ b)
+  -- b intervals are d short of q octaves, so b intervals down are d above b - q octaves down
+  turns-below : (x : ℕ) × (q + x ≡ b)
   turns-below =
       let turns = ap (λ (x : ℕ). b * x) mirror in
       let less : q < suc b = lt-of-mul-lt-mul-right N (omega (arith, B .below, B .some-u, fits B)) in
       le-dest (omega arith)
 
-  pub turns-above : (x : ℕ) × (p + x ≡ a)
+  turns-above : (x : ℕ) × (p + x ≡ a)
   turns-above = le-dest (le-of-mul-le-mul-right {m = p} {n = a} {k = N} (omega (arith, B .above, ap (λ (x : ℕ). a * x) mirror)) (octave-some B))
 
-  unfoldable pub mirrored : Basis N f
+  mirrored : Basis N f
   mirrored =
       record {
         a = b;
@@ -40,7 +40,7 @@ module _ {N g : ℕ} (f : ℕ) (mirror : g + f ≡ N) (B : Basis N g) where
         q = turns-above .0;
         above = omega (arith, B .below, ap (λ (x : ℕ). b * x) mirror, ap (λ (x : ℕ). x * N) (turns-below .1));
         below = omega (arith, B .above, ap (λ (x : ℕ). a * x) mirror, ap (λ (x : ℕ). x * N) (turns-above .1));
-        whole = omega (arith, B .whole);
+        fills = omega (arith, B .fills);
         some-a = B .some-b;
         some-b = B .some-a;
         some-u = B .some-d;
@@ -48,7 +48,7 @@ module _ {N g : ℕ} (f : ℕ) (mirror : g + f ≡ N) (B : Basis N g) where
       }
 
 -- the same tuning with the interval down
-abbrev pub down : Tuning → Tuning
+abbrev down : Tuning → Tuning
 down t = record { octave = t .octave; interval = t .octave - t .interval; notes = t .notes }
 
 mirrored-order : (u d : ℕ) (both : Bool) → in-order d u both ≡ in-order u d both
@@ -64,7 +64,7 @@ mirrored-order u d both =
 module _ {t : Tuning} (small : t .interval < t .octave) (B : Basis-of t) where
   open Basis (B .basis) using (a, b, u, d)
 
-  pub basis-down : Basis-of (down t)
+  basis-down : Basis-of (down t)
   unfolding mirrored
   basis-down =
       record {
@@ -74,13 +74,13 @@ module _ {t : Tuning} (small : t .interval < t .octave) (B : Basis-of t) where
         reach = omega (arith, B .reach);
       }
 
-  pub sizes-down : sizes (down t) ≡ sizes t
+  sizes-down : sizes (down t) ≡ sizes t
   unfolding mirrored basis-down
   sizes-down =
       let sum : ltb (t .notes) (b + a) ≡ ltb (t .notes) (a + b) = ap (ltb (t .notes)) (add-comm b a) in
       sizes-listed (down t) basis-down ∙ ap (in-order d u) sum ∙ mirrored-order u d (ltb (t .notes) (a + b)) ∙ sym (sizes-listed t B)
 
-  pub steps-counted-down : (s : ℕ) → so-large (down t) s (t .notes) ≡ so-large t s (t .notes)
+  steps-counted-down : (s : ℕ) → so-large (down t) s (t .notes) ≡ so-large t s (t .notes)
   unfolding mirrored basis-down
   steps-counted-down s =
       let sum : d + u ≡ u + d = add-comm d u in
@@ -92,6 +92,8 @@ unfolding Downwards Taken
 downwards t s T some =
     elim (one-or-more t T) [
       | one-note pos one ↦
-          (sizes-alone (down t) pos one ∙ sym (sizes-alone t pos one), steps-counted-alone (down t) s pos one ∙ sym (steps-counted-alone t s pos one))
+          let up = note-alone t pos one in
+          let down = note-alone (down t) pos one in
+          (down .2 ∙ sym (up .2), down .3 s ∙ sym (up .3 s))
       | has-basis B ↦ (sizes-down (T .2) B, steps-counted-down (T .2) B s)
     ]

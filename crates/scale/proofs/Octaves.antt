@@ -17,7 +17,7 @@ pub same-below : (N v w c e : ℕ) → v < N → w < N → v + c * N ≡ w + e *
 same-below N v w c e v-low w-low apart =
     sym (add-mul-mod-self-right v c N ∙ mod-eq-of-lt v-low) ∙ ap (λ (x : ℕ). x % N) apart ∙ add-mul-mod-self-right w e N ∙ mod-eq-of-lt w-low
 
--- whole octaves that come to something are one or more
+-- a multiple of the octave that is not 0 is one octave at least
 pub some-octaves : (N x m : ℕ) → 0 < m → m ≡ x * N → 0 < x
 some-octaves N x m some e =
     elim (eq-zero-or-pos x) [

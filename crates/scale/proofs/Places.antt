@@ -1,6 +1,6 @@
 -- Where notes stand: from one note to the next the place rises by one, and from the last place it goes to 0.
 use mathlib.Core.Path.{_≡_, sym, ap, _∙_}
-use mathlib.Core.Logic.{_⊎_, inl, inr, _≢_, _↔_}
+use mathlib.Core.Logic.{_⊎_, inl, inr, _≢_}
 use Prim.Native.Nat.{ℕ, zero, suc, _+_, _-_, _%_, _≤_, _<_}
 use native.Mathlib.Nat.{mod-eq-of-lt, mod-self}
 use native.Mathlib.Omega.{arith}
@@ -8,14 +8,13 @@ use Rattle.std.proofs.shelf.Tests.{cases-lt, cases-order}
 use Rattle.scale.specs.Notes.{Tuning, note, up-to, place, next}
 use Rattle.scale.specs.Promise.{Taken}
 use Rattle.scale.specs.Basis.{All-different}
-use Rattle.scale.specs.Laws.{Next-place, Places-differ, Places-filled}
-use Rattle.scale.proofs.Growth.{note-zero}
-use Rattle.scale.proofs.Ways.{note-low, way-to-higher, way-to-lower}
+use Rattle.scale.specs.Laws.{Next-place, Places-by-height, Places-differ, Places-filled}
+use Rattle.scale.proofs.Ways.{note-zero, note-low, way-to-higher, way-to-lower}
 use Rattle.scale.proofs.Steps.{Goes, same-note, goes-on}
 use Rattle.scale.proofs.Counts.{at-most, all-counted, one-counted, counts-itself, rises-over, rises-by-one}
 
 module _ (t : Tuning) where
-  -- a note that is there: as many notes as its place are lower
+  -- of the notes up to a note's height all but the note itself count for its place
   pub place-counts : (k : ℕ) → k < t .notes → up-to t (note t k) (t .notes) ≡ suc (place t k)
   place-counts k there = omega (arith, counts-itself t (note t k) k (t .notes) there (omega arith))
 
@@ -26,16 +25,6 @@ module _ (t : Tuning) where
   pub place-rises : (j k : ℕ) → j < t .notes → k < t .notes → note t j < note t k → place t j < place t k
   place-rises j k j-there k-there less =
       omega (arith, place-counts j j-there, place-counts k k-there, rises-over t (note t j) (note t k) k (t .notes) k-there less (omega arith))
-
-  pub places-by-height : (j k : ℕ) → j < t .notes → k < t .notes → (place t j < place t k) ↔ (note t j < note t k)
-  places-by-height j k j-there k-there = (
-    λ less. elim (cases-order (note t j) (note t k)) [
-      | inl level ↦ absurd (omega (arith, ap (λ (h : ℕ). up-to t h (t .notes)) level))
-      | inr (inl lower) ↦ lower
-      | inr (inr higher) ↦ absurd (omega (arith, place-rises k j k-there j-there higher))
-    ],
-    place-rises j k j-there k-there,
-  )
 
 module _ (t : Tuning) (pos : 0 < t .octave) (differ : All-different t) where
   pub same-place : (j k : ℕ) → j < t .notes → k < t .notes → place t j ≡ place t k → j ≡ k
@@ -121,8 +110,18 @@ pub next-place : Next-place
 unfolding Taken
 next-place t k T there =
     let (s, j, G) = goes-on t T k there in
-    let e : next t k - 1 ≡ j = omega (arith, G .to) in
-    (omega (arith, G .to), omega (arith, G .to, G .there), ap (place t) e ∙ place-of-next t (T .0) (T .5) k s j there G)
+    let e : next t k - 1 ≡ j = omega (arith, G .next-is) in
+    (omega (arith, G .next-is), omega (arith, G .next-is, G .there), ap (place t) e ∙ place-of-next t (T .0) (T .5) k s j there G)
+
+pub places-by-height : Places-by-height
+places-by-height t j k j-there k-there = (
+  λ less. elim (cases-order (note t j) (note t k)) [
+    | inl level ↦ absurd (omega (arith, ap (λ (h : ℕ). up-to t h (t .notes)) level))
+    | inr (inl lower) ↦ lower
+    | inr (inr higher) ↦ absurd (omega (arith, place-rises t k j k-there j-there higher))
+  ],
+  place-rises t j k j-there k-there,
+)
 
 pub places-differ : Places-differ
 unfolding Taken

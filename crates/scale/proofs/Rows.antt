@@ -1,63 +1,29 @@
 -- A row of notes that passes a test is the scale: every note of the tuning stands in it, and each is lower than the one after it. The first is then
 -- note 0, and the second and the last are the two of the basis, which tell the sizes of steps.
 use mathlib.Core.Path.{_≡_, refl, sym, ap, _∙_}
-use mathlib.Core.Logic.{inl, inr, _≢_}
-use mathlib.Core.Bool.{Bool, true, false, _&&_, _||_}
+use mathlib.Core.Logic.{inl, inr}
+use mathlib.Core.Bool.{Bool, true, _&&_}
 use mathlib.Core.List.{List, [], _∷_}
-use Prim.Native.Nat.{ℕ, zero, suc, _+_, _-_, _%_, _≤_, _<_}
+use Prim.Native.Nat.{ℕ, suc, _+_, _-_, _%_, _≤_, _<_}
 use native.Mathlib.Nat.{mod-lt, mod-eq-of-lt, le-dest}
 use native.Mathlib.Omega.{arith}
 use lib.Dec.{ltb, leb, eqb}
 use lib.ListN.{length, getD}
 use Rattle.std.specs.shelf.Text.{sameBytes}
 use Rattle.std.proofs.shelf.Equals.{sameBytes-decides}
-use Rattle.std.proofs.shelf.Tests.{and-parts, or-cases, cases-lt, cases-eq, cases-order, ltb-true, leb-true, eqb-true, false≢true}
-use Rattle.scale.specs.Notes.{pick, Tuning, note, place, next, so-large, sizes}
+use Rattle.std.proofs.shelf.Tests.{and-parts, cases-lt, cases-order, ltb-true, leb-true, eqb-true}
+use Rattle.scale.specs.Notes.{Tuning, note, place, next, so-large, sizes}
 use Rattle.scale.specs.Range.{octave-fits, interval-fits, notes-fit}
 use Rattle.scale.specs.Promise.{Taken}
 use Rattle.scale.specs.Basis.{Basis, Basis-of, All-different}
-use Rattle.scale.specs.Laws.{in-order}
+use Rattle.scale.specs.Laws.{in-order, so-many}
 use Rattle.scale.specs.Scales.{sizes-of, As-many, Written-out, Five-fifths, Seven-fifths, Seven-in-twelve}
+use Rattle.scale.proofs.Below.{all-below, some-below, all-below-is, some-below-is, rises-by}
 use Rattle.scale.proofs.Basis.{octave-some, height-above, height-below}
 use Rattle.scale.proofs.Growth.{basis-exists}
 use Rattle.scale.proofs.Steps.{goes-below, goes-on, next-zero}
 use Rattle.scale.proofs.Sizes.{sizes-listed, steps-counted}
 use Rattle.scale.proofs.Places.{place-there, place-rises, same-place, place-zero, place-of-next}
-
--- a test of all numbers below n, and one of some number
-abbrev all-below : ℕ → (ℕ → Bool) → Bool
-all-below zero test = true
-all-below (suc n) test = test n && all-below n test
-
-abbrev some-below : ℕ → (ℕ → Bool) → Bool
-some-below zero test = false
-some-below (suc n) test = test n || some-below n test
-
-all-below-is : (n : ℕ) (test : ℕ → Bool) → all-below n test ≡ true → (i : ℕ) → i < n → test i ≡ true
-all-below-is zero test passed i less = absurd (omega arith)
-all-below-is (suc n) test passed i less =
-    let parts = and-parts (test n) (all-below n test) passed in
-    elim (cases-eq i n) [
-      | inl last ↦ ap test last ∙ parts .0
-      | inr other ↦ let ne : i ≢ n = other in all-below-is n test (parts .1) i (omega arith)
-    ]
-
-some-below-is : (n : ℕ) (test : ℕ → Bool) → some-below n test ≡ true → (i : ℕ) × (i < n) × (test i ≡ true)
-some-below-is zero test passed = absurd (false≢true passed)
-some-below-is (suc n) test passed =
-    elim (or-cases (test n) (some-below n test) passed) [
-      | inl last ↦ (n, omega arith, last)
-      | inr before ↦ (let (i, less, is) = some-below-is n test before in (i, omega arith, is))
-    ]
-
--- a function that rises from each number to the next rises by as much as they do
-climbs : (f : ℕ → ℕ) (n : ℕ) → ((i : ℕ) → suc i < n → f i < f (suc i)) → (i m : ℕ) → i + m < n → f i + m ≤ f (i + m)
-climbs f n rises i zero less =
-    let e : i + 0 ≡ i = omega arith in
-    omega (arith, ap f e)
-climbs f n rises i (suc m) less =
-    let e : i + suc m ≡ suc (i + m) = omega arith in
-    omega (arith, climbs f n rises i m (omega arith), rises (i + m) (omega arith), ap f e)
 
 module _ (t : Tuning) (row : List ℕ) where
   abbrev at : ℕ → ℕ
@@ -119,7 +85,7 @@ module _ {t : Tuning} {row : List ℕ} (R : Row t row) where
   row-rises i j less there =
       let m = le-dest less in
       let e : i + suc (m .0) ≡ j = omega (arith, m .1) in
-      omega (arith, climbs (λ x. note t (at t row x)) (t .notes) (R .rises) i (suc (m .0)) (omega arith), ap (λ x. note t (at t row x)) e)
+      omega (arith, rises-by (λ x. note t (at t row x)) (t .notes) (R .rises) i (suc (m .0)) (omega arith), ap (λ x. note t (at t row x)) e)
 
   row-differs : All-different t
   row-differs j k less there level =
@@ -137,14 +103,15 @@ module _ {t : Tuning} {row : List ℕ} (R : Row t row) where
   unfolding Taken
   row-taken = let r = range-is (t .octave) (t .interval) (t .notes) (R .ranged) in (r .0, r .1, r .2, r .3, r .4, row-differs)
 
+  places-rise : (i : ℕ) → suc i < t .notes → place t (at t row i) < place t (at t row (suc i))
+  places-rise i less = place-rises t (at t row i) (at t row (suc i)) (R .there i (omega arith)) (R .there (suc i) less) (R .rises i less)
+
   -- n places that rise, all below n, are 0 to n - 1
   row-places : (i : ℕ) → i < t .notes → place t (at t row i) ≡ i
   row-places i there =
-      let up = λ (x : ℕ) (less : suc x < t .notes).
-      place-rises t (at t row x) (at t row (suc x)) (R .there x (omega arith)) (R .there (suc x) less) (R .rises x less) in
       let last : ℕ = t .notes - suc i in
-      let from-first = climbs (λ x. place t (at t row x)) (t .notes) up 0 i (omega arith) in
-      let to-last = climbs (λ x. place t (at t row x)) (t .notes) up i last (omega arith) in
+      let from-first = rises-by (λ x. place t (at t row x)) (t .notes) places-rise 0 i (omega arith) in
+      let to-last = rises-by (λ x. place t (at t row x)) (t .notes) places-rise i last (omega arith) in
       let e : 0 + i ≡ i = omega arith in
       omega (arith, ap (λ x. place t (at t row x)) e, place-there t (at t row (i + last)) (R .there (i + last) (omega arith)))
 
@@ -156,7 +123,7 @@ module _ {t : Tuning} {row : List ℕ} (R : Row t row) where
       let (s, j, G) = goes-on t row-taken (at t row i) (R .there i there) in
       let from = place-of-next t pos row-differs (at t row i) s j (R .there i there) G in
       let same = from ∙ ap (λ (p : ℕ). suc p % t .notes) (row-places i there) ∙ sym (row-places x x-there) in
-      G .to ∙ ap suc (same-place t pos row-differs j (at t row x) (G .there) (R .there x x-there) same)
+      G .next-is ∙ ap suc (same-place t pos row-differs j (at t row x) (G .there) (R .there x x-there) same)
 
   module _ (B : Basis-of t) where
     open Basis (B .basis) using (a, b, u, d)
@@ -177,7 +144,7 @@ module _ {t : Tuning} {row : List ℕ} (R : Row t row) where
         let (i, there, is) = R .all b (B .b-there) in
         let x : ℕ = suc i % t .notes in
         let x-there : x < t .notes = mod-lt (suc i) (omega arith) in
-        let back : at t row x ≡ 0 = omega (arith, goes-below B b (B .b-there) (omega arith) .to, row-nexts i there, ap (next t) is) in
+        let back : at t row x ≡ 0 = omega (arith, goes-below B b (B .b-there) (omega arith) .next-is, row-nexts i there, ap (next t) is) in
         let first : x ≡ 0 = sym (row-places x x-there) ∙ ap (place t) (back ∙ sym row-first) ∙ row-places 0 (omega arith) in
         elim (cases-lt (suc i) (t .notes)) [
           | inl less ↦ absurd (omega (arith, mod-eq-of-lt less))
@@ -202,15 +169,13 @@ module _ (t : Tuning) (row : List ℕ) where
   many-told s =
       let a : ℕ = at t row 1 in
       let b : ℕ = at t row (t .notes - 1) in
-      let u : ℕ = note t a in
-      let d : ℕ = t .octave - note t b in
-      pick (eqb u s) (t .notes - a) 0 + pick (eqb (u + d) s) (a + b - t .notes) 0 + pick (eqb d s) (t .notes - b) 0
+      so-many (t .notes) a b (note t a) (t .octave - note t b) s
 
   abbrev all-told : List (ℕ × ℕ) → Bool
   all-told [] = true
   all-told (x ∷ xs) = eqb (many-told (x .0)) (x .1) && all-told xs
 
-  abbrev writes-out : List (ℕ × ℕ) → Bool
+  abbrev pub writes-out : List (ℕ × ℕ) → Bool
   writes-out steps = is-row t row && (leb 2 (t .notes) && (sameBytes sizes-told (sizes-of steps) && all-told steps))
 
 module _ {t : Tuning} {row : List ℕ} (R : Row t row) (B : Basis-of t) where
@@ -227,7 +192,7 @@ module _ {t : Tuning} {row : List ℕ} (R : Row t row) (B : Basis-of t) where
       (many-so (x .0) ∙ eqb-true (many-told t row (x .0)) (x .1) (parts .0), all-so xs (parts .1))
 
 -- a row of two notes or more that passes the test is the scale
-written-out : (t : Tuning) (row : List ℕ) (steps : List (ℕ × ℕ)) → writes-out t row steps ≡ true → Written-out t row steps
+pub written-out : (t : Tuning) (row : List ℕ) (steps : List (ℕ × ℕ)) → writes-out t row steps ≡ true → Written-out t row steps
 written-out t row steps passed =
     let listed : Bool = sameBytes (sizes-told t row) (sizes-of steps) in
     let p = and-parts (is-row t row) (leb 2 (t .notes) && (listed && all-told t row steps)) passed in

@@ -1,5 +1,5 @@
 -- Three rules: from note k no way to another note is shorter than u, if note k + a is there; than d, if k is at least b; and than u + d, if neither
--- holds. If one were, what is left of u, of d, or of it, would be too short a way between two notes.
+-- holds. If one were, what is left of u, of d, or of that way, would be too short a way between two notes.
 use mathlib.Core.Path.{_≡_, sym}
 use mathlib.Core.Logic.{_⊎_, inl, inr}
 use Prim.Native.Nat.{ℕ, _+_, _-_, _≤_, _<_}
@@ -14,17 +14,11 @@ module _ {t : Tuning} (B : Basis-of t) {k j w : ℕ} (k-there : k < t .notes) (j
     (short : w < t .octave) (W : Way-in t k j w) where
   open Basis (B .basis) using (a, b, u, d)
 
-  later-far : k < j → u ≤ w
-  later-far later = far-later (B .basis) W later (omega (arith, B .reach))
-
-  earlier-far : j < k → d ≤ w
-  earlier-far earlier = far-earlier (B .basis) W earlier (omega (arith, B .reach))
-
   pub rule-above : k + a < t .notes → (w ≡ 0) ⊎ (u ≤ w)
   rule-above there =
       elim (cases-order j k) [
         | inl same ↦ inl (way-to-same W short (sym same))
-        | inr (inr later) ↦ inr (later-far later)
+        | inr (inr later) ↦ inr (far-later (B .basis) W later (omega (arith, B .reach)))
         | inr (inl earlier) ↦ elim (cases-lt w u) [
           | inr far ↦ inr far
           | inl less ↦
@@ -38,7 +32,7 @@ module _ {t : Tuning} (B : Basis-of t) {k j w : ℕ} (k-there : k < t .notes) (j
   rule-below there =
       elim (cases-order j k) [
         | inl same ↦ inl (way-to-same W short (sym same))
-        | inr (inl earlier) ↦ inr (earlier-far earlier)
+        | inr (inl earlier) ↦ inr (far-earlier (B .basis) W earlier (omega (arith, B .reach)))
         | inr (inr later) ↦ elim (cases-lt w d) [
           | inr far ↦ inr far
           | inl less ↦
@@ -53,12 +47,12 @@ module _ {t : Tuning} (B : Basis-of t) {k j w : ℕ} (k-there : k < t .notes) (j
       elim (cases-order j k) [
         | inl same ↦ inl (way-to-same W short (sym same))
         | inr (inl earlier) ↦
-            let d-far = earlier-far earlier in
+            let d-far = far-earlier (B .basis) W earlier (omega (arith, B .reach)) in
             let rest : Way-in t k (j + b) (w - d) = way-first (way-below (B .basis) (j + b) j (omega arith)) (w - d) (omega arith) W in
             let u-far = far-later (B .basis) rest (omega arith) (omega (arith, B .basis .some-a)) in
             inr (omega arith)
         | inr (inr later) ↦
-            let u-far = later-far later in
+            let u-far = far-later (B .basis) W later (omega (arith, B .reach)) in
             let rest : Way-in t (k + a) j (w - u) = way-rest (way-above (B .basis) k) (w - u) (omega arith) W in
             let d-far = far-earlier (B .basis) rest (omega arith) (omega (arith, B .basis .some-b)) in
             inr (omega arith)

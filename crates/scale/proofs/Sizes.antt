@@ -3,18 +3,19 @@ use mathlib.Core.Path.{_≡_, refl, sym, ap, _∙_}
 use mathlib.Core.Logic.{inl, inr, _≢_}
 use mathlib.Core.Bool.{Bool, true, false}
 use mathlib.Core.List.{List, [], _∷_}
-use Prim.Native.Nat.{ℕ, zero, suc, _+_, _*_, _-_, _≤_, _<_}
+use Prim.Native.Nat.{ℕ, zero, suc, _+_, _*_, _≤_, _<_}
 use native.Mathlib.Nat.{add-zero}
 use native.Mathlib.Omega.{arith}
 use lib.Dec.{ltb, eqb}
 use lib.ListN.{length, getD}
 use Rattle.std.proofs.shelf.Tests.{cases-order, lt-ltb, le-ltb, eq-eqb, ne-eqb}
-use Rattle.scale.specs.Notes.{pick, Tuning, so-large, put-in, sizes}
+use Rattle.scale.specs.Notes.{pick, put-in}
 use Rattle.scale.specs.Promise.{Three-at-most}
-use Rattle.scale.specs.Basis.{Basis, Basis-of}
-use Rattle.scale.specs.Laws.{in-order}
+use Rattle.scale.specs.Basis.{Basis}
+use Rattle.scale.specs.Laws.{in-order, Sizes-listed, Steps-counted, Note-alone}
 use Rattle.scale.proofs.Growth.{one-note, has-basis, one-or-more}
-use Rattle.scale.proofs.Sums.{times, over-all, over-one, sizes-over, so-large-over, sum-all}
+use Rattle.scale.proofs.Steps.{alone}
+use Rattle.scale.proofs.Sums.{times, many-u, many-both, many-d, over-all, over-one, sizes-over, so-large-over, sum-all}
 
 module _ (u d : ℕ) (both : Bool) where
   pub in-order-less : u < d → in-order u d both ≡ u ∷ (d ∷ pick both ((u + d) ∷ []) [])
@@ -77,50 +78,47 @@ put-two : (u d : ℕ) → put-in d (put-in u []) ≡ in-order u d false
 unfolding put-in in-order
 put-two u d = grind arith
 
--- m steps of size x count if that is the size asked for
+-- m steps of size x count m times if that is the size asked for
 many-if : (x s m : ℕ) → m * pick (eqb x s) 1 0 ≡ pick (eqb x s) m 0
 many-if x s m = grind arith
 
-module _ (t : Tuning) (B : Basis-of t) where
-  open Basis (B .basis) using (a, b, u, d)
+pub sizes-listed : Sizes-listed
+unfolding times
+sizes-listed t B =
+    sizes-over t (t .notes)
+    ∙ over-all B put-in []
+    ∙ put-often (many-d B) d (times (many-both B) (put-in (u + d)) (times (many-u B) (put-in u) [])) (omega (arith, B .b-there))
+    ∙ ap (λ (l : List ℕ). put-in d (times (many-both B) (put-in (u + d)) l)) (put-often (many-u B) u [] (omega (arith, B .a-there)))
+    ∙ go (many-both B) (omega (arith, B .reach))
+  where
+    open Basis (B .basis) using (a, b, u, d)
 
-  pub sizes-listed : sizes t ≡ in-order u d (ltb (t .notes) (a + b))
-  unfolding times
-  sizes-listed =
-      sizes-over t (t .notes)
-      ∙ over-all B put-in []
-      ∙ put-often (t .notes - b) d (times (a + b - t .notes) (put-in (u + d)) (times (t .notes - a) (put-in u) [])) (omega (arith, B .b-there))
-      ∙ ap (λ (l : List ℕ). put-in d (times (a + b - t .notes) (put-in (u + d)) l)) (put-often (t .notes - a) u [] (omega (arith, B .a-there)))
-      ∙ go (a + b - t .notes) (omega (arith, B .reach))
-    where
-      go : (w : ℕ) → t .notes + w ≡ a + b → put-in d (times w (put-in (u + d)) (put-in u [])) ≡ in-order u d (ltb (t .notes) (a + b))
-      go zero e = put-two u d ∙ ap (in-order u d) (sym (le-ltb (t .notes) (a + b) (omega arith)))
-      go (suc w) e =
-          ap (put-in d) (put-often (suc w) (u + d) (put-in u []) (omega arith))
-          ∙ put-three u d (B .basis .some-u) (B .basis .some-d)
-          ∙ ap (in-order u d) (sym (lt-ltb (t .notes) (a + b) (omega arith)))
+    go : (w : ℕ) → t .notes + w ≡ a + b → put-in d (times w (put-in (u + d)) (put-in u [])) ≡ in-order u d (ltb (t .notes) (a + b))
+    go zero e = put-two u d ∙ ap (in-order u d) (sym (le-ltb (t .notes) (a + b) (omega arith)))
+    go (suc w) e =
+        ap (put-in d) (put-often (suc w) (u + d) (put-in u []) (omega arith))
+        ∙ put-three u d (B .basis .some-u) (B .basis .some-d)
+        ∙ ap (in-order u d) (sym (lt-ltb (t .notes) (a + b) (omega arith)))
 
-  pub steps-counted : (s : ℕ) →
-      so-large t s (t .notes) ≡ pick (eqb u s) (t .notes - a) 0 + pick (eqb (u + d) s) (a + b - t .notes) 0 + pick (eqb d s) (t .notes - b) 0
-  steps-counted s =
-      let up = many-if u s (t .notes - a) in
-      let both = many-if (u + d) s (a + b - t .notes) in
-      let down = many-if d s (t .notes - b) in
-      omega (arith, so-large-over t s (t .notes), sum-all B (λ (x : ℕ). pick (eqb x s) 1 0))
+pub steps-counted : Steps-counted
+steps-counted t B s =
+    let ups = many-if (B .basis .u) s (many-u B) in
+    let boths = many-if (B .basis .u + B .basis .d) s (many-both B) in
+    let downs = many-if (B .basis .d) s (many-d B) in
+    omega (arith, so-large-over t s (t .notes), sum-all B (λ (x : ℕ). pick (eqb x s) 1 0))
 
--- with one note there is one step
-pub sizes-alone : (t : Tuning) → 0 < t .octave → t .notes ≡ 1 → sizes t ≡ t .octave ∷ []
+pub note-alone : Note-alone
 unfolding put-in
-sizes-alone t pos one = sizes-over t (t .notes) ∙ over-one t pos one put-in []
-
-pub steps-counted-alone : (t : Tuning) (s : ℕ) → 0 < t .octave → t .notes ≡ 1 → so-large t s (t .notes) ≡ pick (eqb (t .octave) s) 1 0
-steps-counted-alone t s pos one =
-    so-large-over t s (t .notes) ∙ over-one t pos one (λ (x l : ℕ). pick (eqb x s) 1 0 + l) 0 ∙ add-zero (pick (eqb (t .octave) s) 1 0)
+note-alone t pos one =
+    let G = alone t pos one in
+    let is-so = λ (s x : ℕ). pick (eqb x s) 1 0 in
+    let count = λ (s : ℕ). so-large-over t s (t .notes) ∙ over-one t pos one (λ (x l : ℕ). is-so s x + l) 0 ∙ add-zero (is-so s (t .octave)) in
+    (G .step-is, G .next-is, sizes-over t (t .notes) ∙ over-one t pos one put-in [], count)
 
 pub three-at-most : Three-at-most
 unfolding Three-at-most
 three-at-most t T =
     elim (one-or-more t T) [
-      | one-note pos one ↦ rw (sizes-alone t pos one) (omega arith, λ three. absurd (omega arith))
+      | one-note pos one ↦ rw (note-alone t pos one .2) (omega arith, λ three. absurd (omega arith))
       | has-basis B ↦ rw (sizes-listed t B) (three-in-order (B .basis .u) (B .basis .d) (ltb (t .notes) (B .basis .a + B .basis .b)))
     ]

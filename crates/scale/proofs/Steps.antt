@@ -8,8 +8,8 @@ use Rattle.std.proofs.shelf.Tests.{cases-lt, cases-order}
 use Rattle.scale.specs.Notes.{Tuning, note, step, next, before}
 use Rattle.scale.specs.Promise.{Taken, By-rules}
 use Rattle.scale.specs.Basis.{Basis, Basis-of, All-different}
-use Rattle.scale.specs.Laws.{Basis-told, Steps-by-basis, Step-alone}
-use Rattle.scale.proofs.Basis.{octave-some, fits, fits-below, way-above, way-below, way-both}
+use Rattle.scale.specs.Laws.{Basis-told, Steps-by-basis}
+use Rattle.scale.proofs.Basis.{octave-some, fits, fits-short, way-above, way-below, way-both}
 use Rattle.scale.proofs.Growth.{different, basis-exists, one-note, has-basis, one-or-more}
 use Rattle.scale.proofs.Ways.{Way-in, way, way-short, way-to-same, way-goes, way-is, way-lands}
 use Rattle.scale.proofs.Rules.{rule-above, rule-below, rule-both}
@@ -20,8 +20,8 @@ pub record Goes (t : Tuning) (k s j : ℕ) : Type 0 where
   pub there : j < t .notes
   pub some : 0 < s
   pub short : s ≤ t .octave
-  pub far : step t k ≡ s
-  pub to : next t k ≡ suc j
+  pub step-is : step t k ≡ s
+  pub next-is : next t k ≡ suc j
   pub lands : (note t k + s) % t .octave ≡ note t j
   pub least : (i : ℕ) → i < t .notes → (way t k i ≡ 0) ⊎ (s ≤ way t k i)
 
@@ -42,8 +42,8 @@ goes t differ k s j some short there lands is least =
       there = there;
       some = some;
       short = short;
-      far = far;
-      to = to;
+      step-is = step-is;
+      next-is = next-is;
       lands = lands;
       least = least;
     }
@@ -52,14 +52,14 @@ goes t differ k s j some short there lands is least =
     way-or-octave (inl e) = inl e
     way-or-octave (inr e) = inr (j, there, e)
 
-    far : step t k ≡ s
-    far = way-up-is t k s (t .notes) (t .octave) some short least (way-or-octave is)
+    step-is : step t k ≡ s
+    step-is = way-up-is t k s (t .notes) (t .octave) some short least (way-or-octave is)
 
     leads : (note t k + step t k) % t .octave ≡ note t j
-    leads = ap (λ (x : ℕ). (note t k + x) % t .octave) far ∙ lands
+    leads = ap (λ (x : ℕ). (note t k + x) % t .octave) step-is ∙ lands
 
-    to : next t k ≡ suc j
-    to = next-in-is t k j (t .notes) there (sym leads) (λ i h e. same-note t differ i j h there (e ∙ leads))
+    next-is : next t k ≡ suc j
+    next-is = next-in-is t k j (t .notes) there (sym leads) (λ i h e. same-note t differ i j h there (e ∙ leads))
 
 module _ {t : Tuning} (B : Basis-of t) where
   open Basis (B .basis) using (a, b, u, d)
@@ -80,7 +80,7 @@ module _ {t : Tuning} (B : Basis-of t) where
   pub goes-both : (k : ℕ) → t .notes ≤ k + a → k < b → Goes t k (u + d) (k + a - b)
   goes-both k far near =
       let some : 0 < u + d = omega (arith, B .basis .some-u) in
-      let short : u + d < t .octave = fits-below (B .basis) (omega (arith, B .a-there, B .b-there)) in
+      let short : u + d < t .octave = fits-short (B .basis) (omega (arith, B .a-there, B .b-there)) in
       let there : k + a - b < t .notes = omega (arith, B .a-there) in
       let W = way-both (B .basis) k (k + a - b) (omega (arith, B .reach)) in
       goes-by k (u + d) (k + a - b) some short there W (λ i w i-there w-short W. rule-both B (omega (arith, B .b-there)) i-there w-short W far near)
@@ -91,7 +91,7 @@ module _ {t : Tuning} (B : Basis-of t) where
       let W = way-below (B .basis) k (k - b) (omega arith) in
       goes-by k d (k - b) (B .basis .some-d) short (omega arith) W (λ i w i-there w-short W. rule-below B k-there i-there w-short W far)
 
-  -- which of the three it is
+  -- which rule note k goes by
   pub data Rule (k : ℕ) : Type 0 where
     above : k + a < t .notes → Rule k
     both : t .notes ≤ k + a → k < b → Rule k
@@ -108,17 +108,17 @@ module _ {t : Tuning} (B : Basis-of t) where
       ]
 
   pub next-zero : next t 0 ≡ suc a
-  next-zero = omega (arith, goes-above 0 (omega (arith, B .a-there)) .to)
+  next-zero = omega (arith, goes-above 0 (omega (arith, B .a-there)) .next-is)
 
   pub before-is : before t ≡ suc b
-  before-is = before-in-is t b (t .notes) (B .b-there) (omega (arith, goes-below b (B .b-there) (omega arith) .to)) only
+  before-is = before-in-is t b (t .notes) (B .b-there) (omega (arith, goes-below b (B .b-there) (omega arith) .next-is)) only
     where
       only : (i : ℕ) → i < t .notes → next t i ≡ 1 → i ≡ b
       only i i-there is =
           elim (rule i) [
-            | above there ↦ absurd (omega (arith, goes-above i there .to, B .basis .some-a))
-            | both far near ↦ absurd (omega (arith, goes-both i far near .to))
-            | below there ↦ omega (arith, goes-below i i-there there .to)
+            | above there ↦ absurd (omega (arith, goes-above i there .next-is, B .basis .some-a))
+            | both far near ↦ absurd (omega (arith, goes-both i far near .next-is))
+            | below there ↦ omega (arith, goes-below i i-there there .next-is)
           ]
 
 -- a note alone: the step is the octave, and leads back to it
@@ -147,18 +147,15 @@ goes-on t T k k-there =
 
 pub steps-by-basis : Steps-by-basis
 steps-by-basis t B k there = (
-  λ on. let G = goes-above B k on in (G .far, G .to),
-  λ far near. let G = goes-both B k far near in (G .far, G .to),
-  λ back. let G = goes-below B k there back in (G .far, G .to),
+  λ on. let G = goes-above B k on in (G .step-is, G .next-is),
+  λ far near. let G = goes-both B k far near in (G .step-is, G .next-is),
+  λ back. let G = goes-below B k there back in (G .step-is, G .next-is),
 )
-
-pub step-alone : Step-alone
-step-alone t pos one = let G = alone t pos one in (G .far, G .to)
 
 pub basis-told : Basis-told
 basis-told t B =
-    let up = goes-above B 0 (omega (arith, B .a-there)) .far in
-    let down = goes-below B (B .basis .b) (B .b-there) (omega arith) .far in
+    let up = goes-above B 0 (omega (arith, B .a-there)) .step-is in
+    let down = goes-below B (B .basis .b) (B .b-there) (omega arith) .step-is in
     (next-zero B, before-is B, up, down)
 
 pub by-rules : By-rules
@@ -170,7 +167,7 @@ by-rules t k T many there =
       omega (arith, B .basis .some-a),
       omega (arith, B .basis .some-b),
       omega (arith, B .reach),
-      λ on. omega (arith, goes-above B k (omega arith) .to),
-      λ far near. omega (arith, goes-both B k (omega arith) (omega arith) .to),
-      λ far back. omega (arith, goes-below B k there (omega arith) .to),
+      λ on. omega (arith, goes-above B k (omega arith) .next-is),
+      λ far near. omega (arith, goes-both B k (omega arith) (omega arith) .next-is),
+      λ far back. omega (arith, goes-below B k there (omega arith) .next-is),
     )

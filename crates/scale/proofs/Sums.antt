@@ -12,6 +12,25 @@ use Rattle.scale.specs.Basis.{Basis, Basis-of}
 use Rattle.scale.proofs.Growth.{one-note, has-basis, one-or-more}
 use Rattle.scale.proofs.Steps.{goes-above, goes-both, goes-below, alone}
 
+-- how many steps are u, u + d and d
+module _ {t : Tuning} (B : Basis-of t) where
+  open Basis (B .basis) using (a, b)
+
+  abbrev pub many-u : ℕ
+  many-u = t .notes - a
+
+  abbrev pub many-both : ℕ
+  many-both = a + b - t .notes
+
+  abbrev pub many-d : ℕ
+  many-d = t .notes - b
+
+  u-and-both : many-u + many-both ≡ b
+  u-and-both = omega (arith, B .reach, B .a-there)
+
+  both-and-d : many-both + many-d ≡ a
+  both-and-d = omega (arith, B .reach, B .b-there)
+
 module _ {A : Type 0} where
   -- f done with each of the first m steps
   unfoldable pub over-steps : (ℕ → A → A) → A → Tuning → ℕ → A
@@ -38,21 +57,21 @@ module _ {A : Type 0} where
       one-more = ap (λ (x : ℕ). f x (over-steps f z t (m + i))) (all (m + i) (omega arith) (omega arith))
 
   module _ {t : Tuning} (B : Basis-of t) where
-    open Basis (B .basis) using (a, b, u, d)
+    open Basis (B .basis) using (b, u, d)
 
     pub over-all : (f : ℕ → A → A) (z : A) →
-        over-steps f z t (t .notes) ≡ times (t .notes - b) (f d) (times (a + b - t .notes) (f (u + d)) (times (t .notes - a) (f u) z))
+        over-steps f z t (t .notes) ≡ times (many-d B) (f d) (times (many-both B) (f (u + d)) (times (many-u B) (f u) z))
     unfolding over-steps
     over-all f z =
-        let x : ℕ = t .notes - a in
-        let w : ℕ = a + b - t .notes in
-        let y : ℕ = t .notes - b in
+        let x : ℕ = many-u B in
+        let w : ℕ = many-both B in
+        let y : ℕ = many-d B in
         let first : x ≡ 0 + x = omega arith in
-        let all : t .notes ≡ x + w + y = omega (arith, B .reach, B .a-there, B .b-there) in
-        let up-to-b : x + w ≡ b = omega (arith, B .reach, B .a-there) in
-        let ups = stretch f z t u 0 x (λ k from below. goes-above B k (omega arith) .far) in
-        let boths = stretch f z t (u + d) x w (λ k from below. goes-both B k (omega arith) (omega arith) .far) in
-        let downs = stretch f z t d (x + w) y (λ k from below. goes-below B k (omega arith) (omega arith) .far) in
+        let to-b = u-and-both B in
+        let all : t .notes ≡ x + w + y = omega (arith, B .b-there) in
+        let ups = stretch f z t u 0 x (λ k from below. goes-above B k (omega arith) .step-is) in
+        let boths = stretch f z t (u + d) x w (λ k from below. goes-both B k (omega arith) (omega arith) .step-is) in
+        let downs = stretch f z t d (x + w) y (λ k from below. goes-below B k (omega arith) (omega arith) .step-is) in
         ap (over-steps f z t) all
         ∙ downs
         ∙ ap (times y (f d)) boths
@@ -61,10 +80,10 @@ module _ {A : Type 0} where
   -- with one note there is the octave alone
   pub over-one : (t : Tuning) → 0 < t .octave → t .notes ≡ 1 → (f : ℕ → A → A) (z : A) → over-steps f z t (t .notes) ≡ f (t .octave) z
   unfolding over-steps
-  over-one t pos one f z = ap (over-steps f z t) one ∙ ap (λ (s : ℕ). f s z) (alone t pos one .far)
+  over-one t pos one f z = ap (over-steps f z t) one ∙ ap (λ (s : ℕ). f s z) (alone t pos one .step-is)
 
 -- three things that are done with every step
-pub all-steps-over : (t : Tuning) (m : ℕ) → all-steps t m ≡ over-steps (λ (s l : ℕ). s + l) 0 t m
+all-steps-over : (t : Tuning) (m : ℕ) → all-steps t m ≡ over-steps (λ (s l : ℕ). s + l) 0 t m
 unfolding all-steps over-steps
 all-steps-over t zero = refl
 all-steps-over t (suc m) = ap (λ (l : ℕ). step t m + l) (all-steps-over t m)
@@ -86,30 +105,22 @@ added zero s z = omega arith
 added (suc i) s z = omega (arith, added i s z)
 
 module _ {t : Tuning} (B : Basis-of t) where
-  open Basis (B .basis) using (a, b, u, d)
+  open Basis (B .basis) using (u, d)
 
   -- the sum of what f makes of each step
-  pub sum-all : (f : ℕ → ℕ) →
-      over-steps (λ (s l : ℕ). f s + l) 0 t (t .notes) ≡ (t .notes - a) * f u + (a + b - t .notes) * f (u + d) + (t .notes - b) * f d
+  pub sum-all : (f : ℕ → ℕ) → over-steps (λ (s l : ℕ). f s + l) 0 t (t .notes) ≡ many-u B * f u + many-both B * f (u + d) + many-d B * f d
   sum-all f =
-      let x : ℕ = t .notes - a in
-      let w : ℕ = a + b - t .notes in
-      let y : ℕ = t .notes - b in
       let e = over-all B (λ (s l : ℕ). f s + l) 0 in
-      let ex = added x (f u) 0 in
-      let ew = added w (f (u + d)) (times x (λ (l : ℕ). f u + l) 0) in
-      let ey = added y (f d) (times w (λ (l : ℕ). f (u + d) + l) (times x (λ (l : ℕ). f u + l) 0)) in
+      let ups = added (many-u B) (f u) 0 in
+      let boths = added (many-both B) (f (u + d)) (times (many-u B) (λ (l : ℕ). f u + l) 0) in
+      let downs = added (many-d B) (f d) (times (many-both B) (λ (l : ℕ). f (u + d) + l) (times (many-u B) (λ (l : ℕ). f u + l) 0)) in
       omega arith
 
-  -- n - a and a + b - n are b, and a + b - n and n - b are a
   steps-together : all-steps t (t .notes) ≡ t .octave
   steps-together =
-      let x : ℕ = t .notes - a in
-      let w : ℕ = a + b - t .notes in
-      let y : ℕ = t .notes - b in
-      let ups : x + w ≡ b = omega (arith, B .reach, B .a-there) in
-      let downs : w + y ≡ a = omega (arith, B .reach, B .b-there) in
-      omega (arith, all-steps-over t (t .notes), sum-all (λ (s : ℕ). s), B .basis .whole, ap (λ (v : ℕ). v * u) ups, ap (λ (v : ℕ). v * d) downs)
+      let ups = ap (λ (v : ℕ). v * u) (u-and-both B) in
+      let downs = ap (λ (v : ℕ). v * d) (both-and-d B) in
+      omega (arith, all-steps-over t (t .notes), sum-all (λ (s : ℕ). s), B .basis .fills)
 
 pub go-round : Go-round
 unfolding Go-round

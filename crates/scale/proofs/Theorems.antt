@@ -1,7 +1,7 @@
 -- The statements of specs/ and the file in which each is proved: the table of contents of this folder.
 use Rattle.scale.specs.Promise.{Three-at-most, Go-round, By-rules, One-more, Downwards, Spans}
 use Rattle.scale.specs.Laws.{No-note-nearer, Basis-exists, Basis-told, Basis-begins, Basis-grows, Interval-needed, Repeats-just-if}
-use Rattle.scale.specs.Laws.{Steps-by-basis, Step-alone, Sizes-listed, Steps-counted, Whole-just-if, First-whole}
+use Rattle.scale.specs.Laws.{Steps-by-basis, Sizes-listed, Steps-counted, Note-alone, Whole-just-if, First-whole}
 use Rattle.scale.specs.Laws.{Next-place, Places-by-height, Places-differ, Places-filled}
 use Rattle.scale.specs.Scales.{Five-fifths, Seven-fifths, Seven-in-twelve}
 use Rattle.scale.proofs.Basis as basis
@@ -16,7 +16,7 @@ use Rattle.scale.proofs.Walks as walks
 use Rattle.scale.proofs.Places as places
 use Rattle.scale.proofs.Rows as rows
 
--- The six statements
+-- Sizes, rules, one note more, the interval down, and spans
 
 pub three-at-most : Three-at-most
 three-at-most = sizes.three-at-most
@@ -64,14 +64,14 @@ repeats-just-if = growth.repeats-just-if
 pub steps-by-basis : Steps-by-basis
 steps-by-basis = steps.steps-by-basis
 
-pub step-alone : Step-alone
-step-alone = steps.step-alone
-
 pub sizes-listed : Sizes-listed
 sizes-listed = sizes.sizes-listed
 
 pub steps-counted : Steps-counted
 steps-counted = sizes.steps-counted
+
+pub note-alone : Note-alone
+note-alone = sizes.note-alone
 
 -- Whole scales
 

@@ -1,5 +1,5 @@
--- A whole scale: after m steps from note k one stands at note k + m a, but for so many times n, and has made as many steps of size d as those
--- times. For two notes this number differs by one at most, and so do the spans, by one step of the one size in place of one of the other.
+-- After m steps from note k of a whole scale one stands at note k + m a - c n, and c of the steps are d. From two notes c differs by one at most, so
+-- that the two spans are equal or differ by as much as u and d.
 use mathlib.Core.Path.{_≡_, ap, _∙_}
 use mathlib.Core.Logic.{_⊎_, inl, inr}
 use mathlib.Core.Bool.{false}
@@ -44,7 +44,7 @@ module _ {t : Tuning} (B : Basis-of t) where
           | inl near ↦
               let G = goes-above B k (omega arith) in
               let W = walk m (k + a) (omega arith) in
-              let e : next t k - 1 ≡ k + a = omega (arith, G .to) in
+              let e : next t k - 1 ≡ k + a = omega (arith, G .next-is) in
               record {
                 c = W .c;
                 x = suc (W .x);
@@ -52,12 +52,12 @@ module _ {t : Tuning} (B : Basis-of t) where
                 r-there = W .r-there;
                 ends = omega (arith, W .ends);
                 all = omega (arith, W .all);
-                sum = omega (arith, G .far, W .sum, ap (λ (v : ℕ). span t v m) e);
+                sum = omega (arith, G .step-is, W .sum, ap (λ (v : ℕ). span t v m) e);
               }
           | inr far ↦
               let G = goes-below B k there far in
               let W = walk m (k - b) (omega arith) in
-              let e : next t k - 1 ≡ k - b = omega (arith, G .to) in
+              let e : next t k - 1 ≡ k - b = omega (arith, G .next-is) in
               record {
                 c = suc (W .c);
                 x = W .x;
@@ -65,7 +65,7 @@ module _ {t : Tuning} (B : Basis-of t) where
                 r-there = W .r-there;
                 ends = omega (arith, W .ends);
                 all = omega (arith, W .all);
-                sum = omega (arith, G .far, W .sum, ap (λ (v : ℕ). span t v m) e);
+                sum = omega (arith, G .step-is, W .sum, ap (λ (v : ℕ). span t v m) e);
               }
         ]
 

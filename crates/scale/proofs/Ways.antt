@@ -2,7 +2,7 @@
 use mathlib.Core.Path.{_≡_, sym, ap, _∙_}
 use mathlib.Core.Logic.{inl, inr}
 use Prim.Native.Nat.{ℕ, suc, _+_, _*_, _-_, _/_, _%_, _≤_, _<_}
-use native.Mathlib.Nat.{mod-lt, mod-eq-of-lt, mod-add-div', mod-add-mod, add-mod-right, add-mul-mod-self-right}
+use native.Mathlib.Nat.{zero-mul, zero-mod, mod-lt, mod-eq-of-lt, mod-add-div', mod-add-mod, add-mod-right, add-mul-mod-self-right}
 use native.Mathlib.Omega.{arith}
 use Rattle.std.proofs.shelf.Tests.{cases-lt}
 use Rattle.scale.specs.Notes.{Tuning, note}
@@ -15,7 +15,7 @@ pub record Way (N g k j w : ℕ) : Type 0 where
   pub is : k * g + w + c * N ≡ j * g + e * N
 
 module _ {N g k j w : ℕ} (W : Way N g k j w) where
-  -- only how far apart in the chain the two notes are counts
+  -- a way depends on the notes' numbers only by their difference
   pub way-from-zero : (i : ℕ) → k + i ≡ j → Way N g 0 i w
   way-from-zero i later = record { c = W .c; e = W .e; is = omega (arith, W .is, ap (λ (x : ℕ). x * g) later) }
 
@@ -30,7 +30,7 @@ module _ {N g k j w : ℕ} (W : Way N g k j w) where
   pub way-first : {i x : ℕ} (v : ℕ) → v + w ≡ x → Way N g i j x → Way N g i k v
   way-first v left V = record { c = W .e + V .c; e = W .c + V .e; is = omega (arith, W .is, V .is) }
 
-  -- to the note itself there is no way
+  -- the way to the note itself is 0
   pub way-to-same : w < N → k ≡ j → w ≡ 0
   way-to-same short same = same-below N w 0 (W .c) (W .e) short (omega arith) (omega (arith, W .is, ap (λ (x : ℕ). x * g) same))
 
@@ -40,6 +40,9 @@ Way-in t = Way (t .octave) (t .interval)
 -- the way as the definitions measure it
 abbrev pub way : Tuning → ℕ → ℕ → ℕ
 way t k j = (note t j + t .octave - note t k) % t .octave
+
+pub note-zero : (t : Tuning) → note t 0 ≡ 0
+note-zero t = ap (λ (x : ℕ). x % t .octave) (zero-mul (t .interval)) ∙ zero-mod (t .octave)
 
 module _ (t : Tuning) (pos : 0 < t .octave) where
   pub note-low : (k : ℕ) → note t k < t .octave

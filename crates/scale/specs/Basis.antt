@@ -1,4 +1,4 @@
--- Two notes by whose numbers all others go: one a little above note 0, and one a little below it.
+-- Two notes next to note 0, one above it and one below it, from which every step follows.
 -- Assumes nothing: these are definitions.
 use mathlib.Core.Path.{_≡_}
 use mathlib.Core.Logic.{_≢_}
@@ -16,7 +16,7 @@ pub record Basis (N g : ℕ) : Type 0 where
   pub q : ℕ
   pub above : a * g ≡ p * N + u
   pub below : b * g + d ≡ q * N
-  pub whole : a * d + b * u ≡ N
+  pub fills : a * d + b * u ≡ N
   pub some-a : 0 < a
   pub some-b : 0 < b
   pub some-u : 0 < u
@@ -29,5 +29,6 @@ pub record Basis-of (t : Tuning) : Type 0 where
   pub b-there : basis .b < t .notes
   pub reach : t .notes ≤ basis .a + basis .b
 
+-- The last part of what makes a tuning taken.
 abbrev pub All-different : Tuning → Type 0
 All-different t = (j k : ℕ) → j < k → k < t .notes → note t j ≢ note t k

@@ -1,4 +1,4 @@
--- Scales written out as a builder lays them: the notes by height, and the sizes of steps with how many there are of each.
+-- Scales written out: the notes in the order of their heights, and the sizes of steps with how many there are of each.
 -- Assumes nothing: these are definitions.
 use mathlib.Core.Path.{_≡_}
 use mathlib.Core.List.{List, [], _∷_}
@@ -33,7 +33,7 @@ tuning octave interval notes = record { octave = octave; interval = interval; no
 abbrev pub Five-fifths : Type 0
 Five-fifths = Written-out (tuning 1200 702 5) (0 ∷ (2 ∷ (4 ∷ (1 ∷ (3 ∷ []))))) ((204, 3) ∷ ((294, 2) ∷ []))
 
--- seven
+-- seven of them
 abbrev pub Seven-fifths : Type 0
 Seven-fifths = Written-out (tuning 1200 702 7) (0 ∷ (2 ∷ (4 ∷ (6 ∷ (1 ∷ (3 ∷ (5 ∷ []))))))) ((90, 2) ∷ ((204, 5) ∷ []))
 
