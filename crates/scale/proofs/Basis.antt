@@ -8,7 +8,7 @@ use native.Mathlib.Omega.{arith}
 use Rattle.std.proofs.shelf.Tests.{cases-lt}
 use Rattle.scale.specs.Basis.{Basis}
 use Rattle.scale.specs.Laws.{No-note-nearer}
-use Rattle.scale.proofs.Octaves.{octaves-above, same-below, some-octaves}
+use Rattle.scale.proofs.Octaves.{octaves-above, some-octaves}
 use Rattle.scale.proofs.Ways.{Way, way-from-zero, way-to-zero}
 
 -- What both gaps come to, in numbers alone: for the one above note 0, h is how far note i is above it, and for the one below it a and b, and u and d,
@@ -31,7 +31,22 @@ nearest N a b u d i h x m k pos fills ex some apart first =
     ]
 
 module _ {N g : ℕ} (B : Basis N g) where
-  open Basis B using (a, b, u, d, p, q)
+  open Basis B using (a, b, u, d)
+
+  -- with whole octaves: a intervals are p octaves and u more, and b intervals are d short of q octaves
+  pub p : ℕ
+  p = a * g / N
+
+  pub q : ℕ
+  q = suc (b * g / N)
+
+  pub a-intervals : a * g ≡ p * N + u
+  unfolding p
+  a-intervals = omega (arith, mod-add-div' (a * g) N, B .above)
+
+  pub b-intervals : b * g + d ≡ q * N
+  unfolding q
+  b-intervals = omega (arith, mod-add-div' (b * g) N, B .below)
 
   pub octave-some : 0 < N
   octave-some = omega (arith, B .fills, mul-pos (B .some-a) (B .some-d))
@@ -51,21 +66,21 @@ module _ {N g : ℕ} (B : Basis N g) where
 
   -- the ways that it gives from every note
   pub way-above : (k : ℕ) → Way N g k (k + a) u
-  way-above k = record { c = p; e = 0; is = omega (arith, B .above) }
+  way-above k = record { c = p; e = 0; is = omega (arith, a-intervals) }
 
   pub way-below : (k j : ℕ) → j + b ≡ k → Way N g k j d
-  way-below k j back = record { c = 0; e = q; is = omega (arith, B .below, ap (λ (x : ℕ). x * g) back) }
+  way-below k j back = record { c = 0; e = q; is = omega (arith, b-intervals, ap (λ (x : ℕ). x * g) back) }
 
   pub way-both : (k j : ℕ) → j + b ≡ k + a → Way N g k j (u + d)
-  way-both k j back = record { c = p; e = q; is = omega (arith, B .above, B .below, ap (λ (x : ℕ). x * g) back) }
+  way-both k j back = record { c = p; e = q; is = omega (arith, a-intervals, b-intervals, ap (λ (x : ℕ). x * g) back) }
 
   -- note i of the first a + b is not in the gap above note 0, nor in the gap below it
   gap-above : (i h : ℕ) → 0 < i → i < a + b → Way N g 0 i h → u ≤ h
   gap-above i h some first W =
       let up = ap (λ (v : ℕ). a * v) (W .is) in
       let down = ap (λ (v : ℕ). b * v) (W .is) in
-      let a-up = ap (λ (v : ℕ). i * v) (B .above) in
-      let b-down = ap (λ (v : ℕ). i * v) (B .below) in
+      let a-up = ap (λ (v : ℕ). i * v) a-intervals in
+      let b-down = ap (λ (v : ℕ). i * v) b-intervals in
       let x = octaves-above N (i * d + h * b) 0 (b * W .c) (i * q + b * W .e) octave-some (omega arith) (omega arith) in
       let more = some-octaves N (x .0) (i * d + h * b) (omega (arith, mul-pos some (B .some-d))) (omega (arith, x .1)) in
       nearest N a b u d i h (x .0) (i * p + a * W .e) (a * W .c) octave-some (B .fills) (omega (arith, x .1)) more (omega arith) first
@@ -74,8 +89,8 @@ module _ {N g : ℕ} (B : Basis N g) where
   gap-below i h some first W =
       let up = ap (λ (v : ℕ). a * v) (W .is) in
       let down = ap (λ (v : ℕ). b * v) (W .is) in
-      let a-up = ap (λ (v : ℕ). i * v) (B .above) in
-      let b-down = ap (λ (v : ℕ). i * v) (B .below) in
+      let a-up = ap (λ (v : ℕ). i * v) a-intervals in
+      let b-down = ap (λ (v : ℕ). i * v) b-intervals in
       let fills : b * u + a * d ≡ N = omega (arith, B .fills) in
       let x = octaves-above N (i * u + h * a) 0 (i * p + a * W .c) (a * W .e) octave-some (omega arith) (omega arith) in
       let more = some-octaves N (x .0) (i * u + h * a) (omega (arith, mul-pos some (B .some-u))) (omega (arith, x .1)) in
@@ -95,19 +110,6 @@ module _ {N g : ℕ} (B : Basis N g) where
       let to = mod-add-div' (j * g) N in
       let W : Way N g i j 0 = record { c = j * g / N; e = i * g / N; is = omega arith } in
       omega (arith, B .some-u, far-later W less (omega arith))
-
-  -- how high the two notes are
-  pub height-above : a * g % N ≡ u
-  height-above =
-      let height = mod-add-div' (a * g) N in
-      same-below N (a * g % N) u (a * g / N) p (mod-lt (a * g) octave-some) (omega (arith, fits, B .some-d)) (omega (arith, B .above))
-
-  pub height-below : b * g % N + d ≡ N
-  height-below =
-      let height = mod-add-div' (b * g) N in
-      let low : N - d < N = omega (arith, octave-some, B .some-d) in
-      let e = same-below N (b * g % N) (N - d) (suc (b * g / N)) q (mod-lt (b * g) octave-some) low (omega (arith, fits, B .below)) in
-      omega (arith, fits)
 
 pub no-note-nearer : No-note-nearer
 no-note-nearer N g B j some first =

@@ -10,19 +10,19 @@ use Rattle.scale.specs.Notes.{Tuning}
 use Rattle.scale.specs.Promise.{Taken, with-notes}
 use Rattle.scale.specs.Basis.{Basis, Basis-of, All-different}
 use Rattle.scale.specs.Laws.{Basis-begins, Basis-grows, Basis-exists, Interval-needed, Repeats-just-if}
-use Rattle.scale.proofs.Basis.{first-different}
+use Rattle.scale.proofs.Octaves.{remainder-is}
+use Rattle.scale.proofs.Basis.{p, q, a-intervals, b-intervals, octave-some, fits, first-different}
 
 -- the row begins with note 1 on both sides
 abbrev pub first-basis : {N g : ℕ} → 0 < g → g < N → Basis N g
 first-basis {N} {g} some small =
+    let height : 1 * g % N ≡ g = remainder-is N (1 * g) g 0 0 small (omega arith) in
     record {
       a = 1;
       b = 1;
       u = g;
       d = N - g;
-      p = 0;
-      q = 1;
-      above = omega arith;
+      above = height;
       below = omega arith;
       fills = omega arith;
       some-a = omega arith;
@@ -32,19 +32,19 @@ first-basis {N} {g} some small =
     }
 
 module _ {N g : ℕ} (B : Basis N g) (k v : ℕ) where
-  open Basis B using (a, b, u, d, p, q)
+  open Basis B using (a, b, u, d)
 
   -- k steps at once that bring the note above nearer: v of its distance is left
   abbrev pub nearer-above : k * d + v ≡ u → 0 < v → Basis N g
   nearer-above left some =
+      let k-times = ap (λ (x : ℕ). k * x) (b-intervals B) in
+      let apart : (a + k * b) * g + 0 * N ≡ v + (p B + k * q B) * N = omega (arith, a-intervals B) in
       record {
         a = a + k * b;
         b = b;
         u = v;
         d = d;
-        p = p + k * q;
-        q = q;
-        above = omega (arith, B .above, ap (λ (x : ℕ). k * x) (B .below));
+        above = remainder-is N ((a + k * b) * g) v 0 (p B + k * q B) (omega (arith, fits B, B .some-d)) apart;
         below = B .below;
         fills = omega (arith, B .fills, ap (λ (x : ℕ). b * x) left);
         some-a = omega (arith, B .some-a);
@@ -56,15 +56,16 @@ module _ {N g : ℕ} (B : Basis N g) (k v : ℕ) where
   -- and the note below
   abbrev pub nearer-below : k * u + v ≡ d → 0 < v → Basis N g
   nearer-below left some =
+      let k-times = ap (λ (x : ℕ). k * x) (a-intervals B) in
+      let apart : (b + k * a) * g + 1 * N ≡ N - v + (q B + k * p B) * N = omega (arith, b-intervals B, fits B) in
+      let height = remainder-is N ((b + k * a) * g) (N - v) 1 (q B + k * p B) (omega (arith, octave-some B)) apart in
       record {
         a = a;
         b = b + k * a;
         u = u;
         d = v;
-        p = p;
-        q = q + k * p;
         above = B .above;
-        below = omega (arith, B .below, ap (λ (x : ℕ). k * x) (B .above));
+        below = omega (arith, height, fits B);
         fills = omega (arith, B .fills, ap (λ (x : ℕ). a * x) left);
         some-a = B .some-a;
         some-b = omega (arith, B .some-b);
@@ -82,13 +83,13 @@ basis-grows N g B k v some = (
 )
 
 module _ {N g : ℕ} (B : Basis N g) where
-  open Basis B using (a, b, u, d, p, q)
+  open Basis B using (a, b, u, d)
 
   -- at u = d the notes repeat after the first a + b
   pub note-again : u ≡ d → (k : ℕ) → (k + (a + b)) * g % N ≡ k * g % N
   note-again same k =
-      let round : (k + (a + b)) * g ≡ k * g + (p + q) * N = omega (arith, B .above, B .below) in
-      ap (λ (x : ℕ). x % N) round ∙ add-mul-mod-self-right (k * g) (p + q) N
+      let round : (k + (a + b)) * g ≡ k * g + (p B + q B) * N = omega (arith, a-intervals B, b-intervals B) in
+      ap (λ (x : ℕ). x % N) round ∙ add-mul-mod-self-right (k * g) (p B + q B) N
 
   pub not-all-different : u ≡ d → (n : ℕ) → a + b < n → ((j k : ℕ) → j < k → k < n → j * g % N ≢ k * g % N) → ⊥
   not-all-different same n early differ = differ 0 (0 + (a + b)) (omega (arith, B .some-a)) (omega arith) (sym (note-again same 0))

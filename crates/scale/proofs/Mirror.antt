@@ -3,8 +3,8 @@
 use mathlib.Core.Path.{_≡_, sym, ap, _∙_}
 use mathlib.Core.Logic.{inl, inr}
 use mathlib.Core.Bool.{Bool}
-use Prim.Native.Nat.{ℕ, suc, _+_, _*_, _-_, _<_}
-use native.Mathlib.Nat.{le-dest, add-comm, le-of-mul-le-mul-right, lt-of-mul-lt-mul-right}
+use Prim.Native.Nat.{ℕ, suc, _+_, _*_, _-_, _%_, _<_}
+use native.Mathlib.Nat.{add-comm}
 use native.Mathlib.Omega.{arith}
 use lib.Dec.{ltb}
 use Rattle.std.proofs.shelf.Tests.{cases-order}
@@ -12,40 +12,39 @@ use Rattle.scale.specs.Notes.{Tuning, so-large, sizes}
 use Rattle.scale.specs.Promise.{Taken, Downwards}
 use Rattle.scale.specs.Basis.{Basis, Basis-of}
 use Rattle.scale.specs.Laws.{in-order}
-use Rattle.scale.proofs.Basis.{octave-some, fits}
+use Rattle.scale.proofs.Octaves.{remainder-is}
+use Rattle.scale.proofs.Basis.{p, q, a-intervals, b-intervals, octave-some, fits}
 use Rattle.scale.proofs.Growth.{one-note, has-basis, one-or-more}
 use Rattle.scale.proofs.Sizes.{sizes-listed, steps-counted, note-alone}
 
-module _ {N g : ℕ} (f : ℕ) (mirror : g + f ≡ N) (B : Basis N g) where
-  open Basis B using (a, b, u, d, p, q)
+mirrored : {N g : ℕ} (f : ℕ) → g + f ≡ N → Basis N g → Basis N f
+mirrored {N} {g} f mirror B =
+    record {
+      a = b;
+      b = a;
+      u = d;
+      d = u;
+      above = b-height;
+      below = omega (arith, a-height, fits B);
+      fills = omega (arith, B .fills);
+      some-a = B .some-b;
+      some-b = B .some-a;
+      some-u = B .some-d;
+      some-d = B .some-u;
+    }
+  where
+    open Basis B using (a, b, u, d)
 
-  -- b intervals are d short of q octaves, so b intervals down are d above b - q octaves down
-  turns-below : (x : ℕ) × (q + x ≡ b)
-  turns-below =
-      let turns = ap (λ (x : ℕ). b * x) mirror in
-      let less : q < suc b = lt-of-mul-lt-mul-right N (omega (arith, B .below, B .some-u, fits B)) in
-      le-dest (omega arith)
+    -- b intervals up are q octaves less d, so b intervals down are b - q octaves and d
+    b-height : b * f % N ≡ d
+    b-height =
+        let both = ap (λ (x : ℕ). b * x) mirror in
+        remainder-is N (b * f) d (q B) b (omega (arith, fits B, B .some-u)) (omega (arith, b-intervals B))
 
-  turns-above : (x : ℕ) × (p + x ≡ a)
-  turns-above = le-dest (le-of-mul-le-mul-right {m = p} {n = a} {k = N} (omega (arith, B .above, ap (λ (x : ℕ). a * x) mirror)) (octave-some B))
-
-  mirrored : Basis N f
-  mirrored =
-      record {
-        a = b;
-        b = a;
-        u = d;
-        d = u;
-        p = turns-below .0;
-        q = turns-above .0;
-        above = omega (arith, B .below, ap (λ (x : ℕ). b * x) mirror, ap (λ (x : ℕ). x * N) (turns-below .1));
-        below = omega (arith, B .above, ap (λ (x : ℕ). a * x) mirror, ap (λ (x : ℕ). x * N) (turns-above .1));
-        fills = omega (arith, B .fills);
-        some-a = B .some-b;
-        some-b = B .some-a;
-        some-u = B .some-d;
-        some-d = B .some-u;
-      }
+    a-height : a * f % N ≡ N - u
+    a-height =
+        let both = ap (λ (x : ℕ). a * x) mirror in
+        remainder-is N (a * f) (N - u) (suc (p B)) a (omega (arith, octave-some B, B .some-u)) (omega (arith, a-intervals B, fits B))
 
 -- the same tuning with the interval down
 abbrev down : Tuning → Tuning

@@ -12,10 +12,12 @@ octaves-above N m k c e pos apart above =
     let z = le-dest fewer in
     (z .0, omega (arith, ap (λ (v : ℕ). v * N) (z .1)))
 
--- they are the same if both are below the octave
+-- below the octave there is one of them
+pub remainder-is : (N m h c e : ℕ) → h < N → m + c * N ≡ h + e * N → m % N ≡ h
+remainder-is N m h c e low apart = sym (add-mul-mod-self-right m c N) ∙ ap (λ (x : ℕ). x % N) apart ∙ add-mul-mod-self-right h e N ∙ mod-eq-of-lt low
+
 pub same-below : (N v w c e : ℕ) → v < N → w < N → v + c * N ≡ w + e * N → v ≡ w
-same-below N v w c e v-low w-low apart =
-    sym (add-mul-mod-self-right v c N ∙ mod-eq-of-lt v-low) ∙ ap (λ (x : ℕ). x % N) apart ∙ add-mul-mod-self-right w e N ∙ mod-eq-of-lt w-low
+same-below N v w c e v-low w-low apart = sym (mod-eq-of-lt v-low) ∙ remainder-is N v w c e w-low apart
 
 -- a multiple of the octave that is not 0 is one octave at least
 pub some-octaves : (N x m : ℕ) → 0 < m → m ≡ x * N → 0 < x

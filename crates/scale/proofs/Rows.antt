@@ -19,7 +19,7 @@ use Rattle.scale.specs.Basis.{Basis, Basis-of, All-different}
 use Rattle.scale.specs.Laws.{in-order, so-many}
 use Rattle.scale.specs.Scales.{sizes-of, As-many, Written-out, Five-fifths, Seven-fifths, Seven-in-twelve}
 use Rattle.scale.proofs.Below.{all-below, some-below, all-below-is, some-below-is, rises-by}
-use Rattle.scale.proofs.Basis.{octave-some, height-above, height-below}
+use Rattle.scale.proofs.Basis.{octave-some}
 use Rattle.scale.proofs.Growth.{basis-exists}
 use Rattle.scale.proofs.Steps.{goes-below, goes-on, next-zero}
 use Rattle.scale.proofs.Sizes.{sizes-listed, steps-counted}
@@ -152,10 +152,10 @@ module _ {t : Tuning} {row : List ℕ} (R : Row t row) where
         ]
 
     row-up : note t (at t row 1) ≡ u
-    row-up = ap (note t) row-second ∙ height-above (B .basis)
+    row-up = ap (note t) row-second ∙ B .basis .above
 
     row-down : t .octave - note t (at t row (t .notes - 1)) ≡ d
-    row-down = omega (arith, ap (note t) row-last, height-below (B .basis))
+    row-down = omega (arith, ap (note t) row-last, B .basis .below)
 
 -- the sizes and how many there are of each, told by the second note and the last
 module _ (t : Tuning) (row : List ℕ) where

@@ -2,20 +2,17 @@
 -- Assumes nothing: these are definitions.
 use mathlib.Core.Path.{_≡_}
 use mathlib.Core.Logic.{_≢_}
-use Prim.Native.Nat.{ℕ, _+_, _*_, _≤_, _<_}
+use Prim.Native.Nat.{ℕ, _+_, _*_, _%_, _≤_, _<_}
 use Rattle.scale.specs.Notes.{Tuning, note}
 
--- In an octave of N units, with an interval of g: a intervals are p octaves and u units more, so that note a is u above note 0; b intervals are d
--- units short of q octaves, so that note b is d below it; and a times d and b times u together are the octave.
+-- In an octave of N units, with an interval of g: note a is u above note 0, note b is d below it, and a times d and b times u together are the octave.
 pub record Basis (N g : ℕ) : Type 0 where
   pub a : ℕ
   pub b : ℕ
   pub u : ℕ
   pub d : ℕ
-  pub p : ℕ
-  pub q : ℕ
-  pub above : a * g ≡ p * N + u
-  pub below : b * g + d ≡ q * N
+  pub above : a * g % N ≡ u
+  pub below : b * g % N + d ≡ N
   pub fills : a * d + b * u ≡ N
   pub some-a : 0 < a
   pub some-b : 0 < b
