@@ -63,7 +63,7 @@ in-order u d both =
     let rest : List ℕ = pick both ((u + d) ∷ []) [] in
     pick (ltb u d) (u ∷ (d ∷ rest)) (pick (eqb u d) (u ∷ rest) (d ∷ (u ∷ rest)))
 
--- the sizes of steps: the sum of u and d is one if there are fewer than a + b notes
+-- the sizes of steps are u, d and, if there are fewer than a + b notes, u + d
 abbrev pub Sizes-listed : Type 0
 Sizes-listed = (t : Tuning) (B : Basis-of t) → sizes t ≡ in-order (B .basis .u) (B .basis .d) (ltb (t .notes) (B .basis .a + B .basis .b))
 
