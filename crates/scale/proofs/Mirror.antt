@@ -91,8 +91,8 @@ unfolding Downwards Taken
 downwards t s T some =
     elim (one-or-more t T) [
       | one-note pos one ↦
-          let up = note-alone t pos one in
-          let down = note-alone (down t) pos one in
-          (down .2 ∙ sym (up .2), down .3 s ∙ sym (up .3 s))
+          let from-up = note-alone t pos one in
+          let from-down = note-alone (down t) pos one in
+          (from-down .2 ∙ sym (from-up .2), from-down .3 s ∙ sym (from-up .3 s))
       | has-basis B ↦ (sizes-down (T .2) B, steps-counted-down (T .2) B s)
     ]

@@ -12,7 +12,7 @@ octaves-above N m k c e pos apart above =
     let z = le-dest fewer in
     (z .0, omega (arith, ap (λ (v : ℕ). v * N) (z .1)))
 
--- below the octave there is one of them
+-- the one below the octave is the remainder of the other, and two below it are the same
 pub remainder-is : (N m h c e : ℕ) → h < N → m + c * N ≡ h + e * N → m % N ≡ h
 remainder-is N m h c e low apart = sym (add-mul-mod-self-right m c N) ∙ ap (λ (x : ℕ). x % N) apart ∙ add-mul-mod-self-right h e N ∙ mod-eq-of-lt low
 

@@ -26,7 +26,7 @@ pub fn one_note_more()
     ensures { λ _. ⌜ One-more ⌝ }
 {}
 
-// The interval down in place of up makes the same sizes, and as many of each.
+// The interval down in place of up, if it is above 0, makes the same sizes, and as many of each.
 pub fn interval_downwards()
     ensures { λ _. ⌜ Downwards ⌝ }
 {}
