@@ -1,4 +1,6 @@
 // Answers orders: the checks in their order, and then the order done.
+#![tactic(auto)]
+
 ghost use Rattle.std.specs.Prelude.{◌≡◌, ◌&&◌, leb, length, if◌then◌else◌, Some, None, Err, nat_le};
 ghost use Rattle.answers.specs.Reply.{reply, said, written};
 

@@ -1,4 +1,6 @@
 // Answers a file of orders, a line for each.
+#![tactic(auto)]
+
 ghost use Rattle.std.specs.Prelude.{◌≤◌, length, IfOk};
 
 mod line;

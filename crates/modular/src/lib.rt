@@ -1,4 +1,6 @@
 // Products and remainders, exact for all numbers: u32 in and out, and u64 for products. What is divided by can't be 0.
+#![tactic(auto)]
+
 ghost use Rattle.std.specs.Prelude.{◌≡◌, ◌*◌};
 ghost use Rattle.std.specs.NonZero.{non_zero_u32_get};
 ghost use Rattle.scale.specs.Notes.{note};

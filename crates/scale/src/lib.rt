@@ -1,4 +1,6 @@
 // Generated scales: one interval over and over again. What they are, and what is promised of them, is in specs/.
+#![tactic(auto)]
+
 ghost use Rattle.std.specs.Prelude.{◌≡◌, ◌*◌};
 
 pub mod laws;

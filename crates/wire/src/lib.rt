@@ -1,4 +1,6 @@
 // Orders and answers as bytes: what stands in them, how they are read and how they are written.
+#![tactic(auto)]
+
 pub mod answer;
 mod bytes;
 pub mod laws;
