@@ -8,6 +8,7 @@ mod line;
 use line::Line;
 use std::alloc::AllocError;
 use std::io::{BufWriter, Read, Write};
+use std::process::ExitCode;
 use std::{env, fmt, fs, io};
 use wire::order;
 
@@ -50,12 +51,12 @@ impl fmt::Display for Failure {
     }
 }
 
-fn main(rt: HostRuntime) -> Result<(), Failure> {
+fn main(rt: HostRuntime) -> ExitCode {
     match run(&rt) {
-        Ok(()) => Ok(()),
+        Ok(()) => ExitCode::SUCCESS,
         Err(failure) => {
-            eprintln!(rt; "desk: {failure}")?;
-            Err(failure)
+            let _ = eprintln!(rt; "desk: {failure}");
+            ExitCode::FAILURE
         }
     }
 }
@@ -80,7 +81,9 @@ fn run(rt: &HostRuntime) -> Result<(), Failure> {
 // Answers every order of the input.
 fn answer_all<R: Read + Drop>(rt: &HostRuntime, mut input: R) -> Result<(), Failure> {
     let mut piece = vec![in rt.alloc(); 0; PIECE]?;
-    let mut out = BufWriter::new(rt.alloc(), rt.stdout())?;
+    let Ok(mut out) = BufWriter::new(rt.alloc(), rt.stdout()) else {
+        return Err(Failure::Memory);
+    };
     for _ in 0..u64::MAX {
         let filled = match fill(&mut input, &mut piece) {
             Ok(0) => break,

@@ -8,6 +8,6 @@ pub returns : goal.returns
 returns c =
     let out = c.args.out.now in
     let first = four c.args.self.first in
-    let one = then_part [] first out refl c.put-number.ensures in
-    let two = then_part first (four c.args.self.second) out one c.put-number-2.ensures in
+    let one = then_part [] first out refl c.put_number.ensures in
+    let two = then_part first (four c.args.self.second) out one c.put_number-2.ensures in
     all_of (pair_bytes c.args.self) out two c.requires

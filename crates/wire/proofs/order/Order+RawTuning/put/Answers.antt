@@ -11,5 +11,5 @@ returns c =
     let numbers = tuning_bytes (tuning_of o) in
     let one = over_first c.kind.result out (omega arith) ∙ ap (λ k. over (k ∷ []) out) c.kind.ensures in
     let two = then_part (kind o ∷ []) numbers out one (c.put.ensures ∙ ap tuning_bytes c.tuning.ensures) in
-    let three = then_part (kind o ∷ numbers) (four (own o)) out two (c.put-number.ensures ∙ ap four c.own.ensures) in
+    let three = then_part (kind o ∷ numbers) (four (own o)) out two (c.put_number.ensures ∙ ap four c.own.ensures) in
     all_of (order_bytes o) out three c.requires
