@@ -24,7 +24,7 @@ fn a_refusal_is_written_to_the_front(rt: HostRuntime) -> Result<(), Fail> {
     };
     assert_eq!(rt; refused.refusal.number(), 2);
     assert_eq!(rt; refused.place, 1);
-    assert!(rt; &out[0..10] == &[0, 2, 0, 0, 0, 1, 0, 0, 0, 7]);
+    assert!(rt; &out[0..10] == [0, 2, 0, 0, 0, 1, 0, 0, 0, 7].as_slice());
     Ok(())
 }
 

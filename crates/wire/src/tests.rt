@@ -70,5 +70,5 @@ fn an_answer_and_its_bytes(rt: HostRuntime) {
         Answer::Refused(Refusal::NotThere.at(3)).write(&mut out),
         Some(9)
     );
-    assert!(rt; &out[0..10] == &[0, 5, 0, 0, 0, 3, 0, 0, 0, 3]);
+    assert!(rt; &out[0..10] == [0, 5, 0, 0, 0, 3, 0, 0, 0, 3].as_slice());
 }

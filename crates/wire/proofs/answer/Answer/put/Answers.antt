@@ -1,4 +1,4 @@
-use Rattle.std.proofs.Common.{List, [], ◌∷◌, sym, ap, ◌∙◌, arith}
+use Rattle.std.proofs.Common.{[], ◌∷◌, sym, ap, ◌∙◌, arith}
 use Rattle.wire.specs.Answers.{answer_bytes, count, pairs_bytes}
 use Rattle.wire.specs.Bytes.{four, over}
 use Rattle.wire.proofs.Fronts.{over_first, then_part, then_rest}
