@@ -1,7 +1,7 @@
 // Answers orders: the checks in their order, and then the order done.
 #![tactic(auto)]
 
-ghost use Rattle.std.specs.Prelude.{◌≡◌, ◌&&◌, leb, length, if◌then◌else◌, Some, None, Err, nat_le};
+ghost use Rattle.std.specs.Prelude.{◌≡◌, ◌&&◌, length, if◌then◌else◌, Some, None, Err, nat_le};
 ghost use Rattle.answers.specs.Reply.{reply, said, written};
 
 use scale::tuning::Tuning;
@@ -73,7 +73,7 @@ fn refuse(refused: Refused, out: &mut [u8])
 
 // A number that is in range.
 fn within(least: u32, number: u32, most: u32) -> Option<u32>
-    ensures { result ≡ (if leb least number && nat_le number most then Some number else None) }
+    ensures { result ≡ (if nat_le least number && nat_le number most then Some number else None) }
 {
     if least <= number && number <= most {
         Some(number)

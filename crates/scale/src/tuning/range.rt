@@ -1,5 +1,5 @@
 // Which numbers make a tuning.
-ghost use Rattle.std.specs.Prelude.{◌≡◌, ◌<◌, ◌≤◌, ◌&&◌, leb, if◌then◌else◌, Some, None, nat_le};
+ghost use Rattle.std.specs.Prelude.{◌≡◌, ◌<◌, ◌≤◌, ◌&&◌, if◌then◌else◌, Some, None, nat_le};
 ghost use Rattle.scale.specs.Range.{as_tuning, new_said, tuning_from, place_of};
 
 use super::Tuning;
@@ -77,7 +77,7 @@ impl Tuning {
 
 // A number that is in range.
 fn within(least: u32, number: u32, most: u32) -> Option<u32>
-    ensures { result ≡ (if leb least number && nat_le number most then Some number else None) }
+    ensures { result ≡ (if nat_le least number && nat_le number most then Some number else None) }
 {
     if least <= number && number <= most {
         Some(number)
