@@ -103,7 +103,7 @@ module _ {t : Tuning} {row : List ℕ} (R : Row t row) where
   row_places : (i : ℕ) → i < t.notes → place t (at t row i) ≡ i
   row_places i there =
       let last : ℕ = t.notes - suc i in
-      let from_First = rises_by (λ x. place t (at t row x)) t.notes places_rise 0 i (omega arith) in
+      let from_first = rises_by (λ x. place t (at t row x)) t.notes places_rise 0 i (omega arith) in
       let to_last = rises_by (λ x. place t (at t row x)) t.notes places_rise i last (omega arith) in
       let e : 0 + i ≡ i = omega arith in
       omega (arith, ap (λ x. place t (at t row x)) e, place_there t (at t row (i + last)) (R.there (i + last) (omega arith)))

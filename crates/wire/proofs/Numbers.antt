@@ -62,10 +62,10 @@ length_padded : (i n : ℕ) (bs : List ℕ) → length (padded i n bs) ≡ n
 length_padded i zero bs = refl
 length_padded i (suc n) bs = ap suc (length_padded (i + 1) n bs)
 
-getD_padded : (i n j : ℕ) (bs : List ℕ) → j < n → get_or (padded i n bs) j 0 ≡ get_or bs (i + j) 0
-getD_padded i zero j bs h = absurd (not-suc-le-zero h)
-getD_padded i (suc n) zero bs h = rw add-zero
-getD_padded i (suc n) (suc j) bs h = getD_padded (i + 1) n j bs (omega arith) ∙ ap (λ m. get_or bs m 0) (omega arith)
+get_or_padded : (i n j : ℕ) (bs : List ℕ) → j < n → get_or (padded i n bs) j 0 ≡ get_or bs (i + j) 0
+get_or_padded i zero j bs h = absurd (not-suc-le-zero h)
+get_or_padded i (suc n) zero bs h = rw add-zero
+get_or_padded i (suc n) (suc j) bs h = get_or_padded (i + 1) n j bs (omega arith) ∙ ap (λ m. get_or bs m 0) (omega arith)
 
 -- as far as two lists have the same bytes
 pub take_padded : (bs cs : List ℕ) (n p : ℕ) → p ≤ n → p ≤ length bs → ((i : ℕ) → i < p → get_or cs i 0 ≡ get_or bs i 0) → take p (padded 0 n cs) ≡ take p bs
@@ -77,7 +77,7 @@ take_padded bs cs n p few within same =
 
     at : (i : ℕ) → i < p → get_or (take p (padded 0 n cs)) i 0 ≡ get_or (take p bs) i 0
     at i h =
-        get_or-take p (padded 0 n cs) i 0 h ∙ getD_padded 0 n i cs (omega arith)
+        get_or-take p (padded 0 n cs) i 0 h ∙ get_or_padded 0 n i cs (omega arith)
         ∙ ap (λ m. get_or cs m 0) (zero-add i) ∙ same i h ∙ sym (get_or-take p bs i 0 h)
 
 pub padded_all : (n : ℕ) (bs : List ℕ) → length bs ≡ n → padded 0 n bs ≡ bs
