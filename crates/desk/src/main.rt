@@ -81,9 +81,7 @@ fn run(rt: &HostRuntime) -> Result<(), Failure> {
 // Answers every order of the input.
 fn answer_all<R: Read + Drop>(rt: &HostRuntime, mut input: R) -> Result<(), Failure> {
     let mut piece = vec![in rt.alloc(); 0; PIECE]?;
-    let Ok(mut out) = BufWriter::new(rt.alloc(), rt.stdout()) else {
-        return Err(Failure::Memory);
-    };
+    let mut out = BufWriter::new(rt.alloc(), rt.stdout()).map_err(|_| Failure::Memory)?;
     for _ in 0..u64::MAX {
         let filled = match fill(&mut input, &mut piece) {
             Ok(0) => break,
