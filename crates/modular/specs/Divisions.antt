@@ -1,11 +1,11 @@
 -- Products divided, with quotients of 32 bits. Assumes nothing: these are definitions.
-use Rattle.std.specs.Prelude.{ℕ, ◌*◌, ◌/◌, ◌%◌, ◌^◌, cond, Some, None, Option, nat_lt}
+use Rattle.std.specs.Prelude.{ℕ, ◌*◌, ◌/◌, ◌%◌, ◌^◌, if◌then◌else◌, Some, None, Option, nat_lt}
 use Rattle.scale.specs.Quotients.{ceiling}
 use Rattle.modular.specs.declared.Division.{Division}
 
 -- nothing if the quotient doesn't fit
 abbrev if_fits : {A : Type 0} → ℕ → A → Option A
-if_fits quotient answer = cond (nat_lt quotient (2 ^ 32)) (Some answer) None
+if_fits quotient answer = if nat_lt quotient (2 ^ 32) then Some answer else None
 
 -- a times b divided by a third number
 abbrev pub product_divided : ℕ → ℕ → ℕ → Option Division

@@ -1,10 +1,10 @@
 -- Which numbers make a tuning: an octave of 1 to 1,000,000,000 units, an interval below it, and 1 to as many notes as it has units.
 -- Assumes nothing: these are definitions.
-use Rattle.std.specs.Prelude.{ℕ, Bool, cond, ◌&&◌, Ok, Err, Result, nat_le, nat_lt}
+use Rattle.std.specs.Prelude.{ℕ, Bool, if◌then◌else◌, ◌&&◌, Ok, Err, Result, nat_le, nat_lt}
 use Rattle.scale.specs.Notes.{Tuning}
 use Rattle.scale.specs.declared.tuning.Tuning.{Tuning as Ranged}
-use Rattle.scale.specs.declared.tuning.range.RangeError.{RangeError}
-use Rattle.scale.specs.declared.tuning.range.RangeError.TheVariants.{Octave, Interval, Notes}
+use Rattle.scale.specs.declared.tuning.RangeError.{RangeError}
+use Rattle.scale.specs.declared.tuning.RangeError.TheVariants.{Octave, Interval, Notes}
 
 abbrev pub octave_fits : ℕ → Bool
 octave_fits octave = nat_lt 0 octave && nat_le octave 1000000000
@@ -17,7 +17,7 @@ notes_fit octave notes = nat_lt 0 notes && nat_le notes octave
 
 -- a check: what doesn't pass is told, and what passes goes on
 abbrev unless : Bool → RangeError → Result Tuning RangeError → Result Tuning RangeError
-unless passes error next = cond passes next (Err error)
+unless passes error next = if passes then next else Err error
 
 -- the tuning of three numbers, or which of them is the first out of range
 abbrev pub tuning_from : ℕ → ℕ → ℕ → Result Tuning RangeError
