@@ -1,5 +1,5 @@
 -- What is replied to an order, and what is written. Assumes nothing: these are definitions.
-use Rattle.std.specs.Prelude.{ℕ, Bool, cond, List, length, Some, None, Ok, Err, Result, nat_le}
+use Rattle.std.specs.Prelude.{ℕ, Bool, if◌then◌else◌, List, length, Some, None, Ok, Err, Result, nat_le}
 use Rattle.scale.specs.declared.tuning.Tuning.{Tuning as Ranged}
 use Rattle.scale.specs.Notes.{Tuning}
 use Rattle.scale.specs.Range.{octave_fits, interval_fits, notes_fit, as_tuning}
@@ -22,7 +22,7 @@ refused r place = Err (record { refusal = r; place = place })
 
 -- a check: what doesn't pass is refused, and what passes goes on
 abbrev pub unless : Bool → Reply → Reply → Reply
-unless passes refusal next = cond passes next refusal
+unless passes refusal next = if passes then next else refusal
 
 -- the checks of an order that can be read, with so much room for the answer
 abbrev pub checked : Order RawTuning → RawTuning → ℕ → Reply
@@ -40,7 +40,7 @@ reply bs room = elim (read_order bs) [ None ↦ refused Unreadable (misfit bs) |
 -- what the room holds after the reply: a refusal's bytes at its front, if it has 64 bytes
 abbrev pub written : Reply → List ℕ → List ℕ
 written (Ok o) out = out
-written (Err r) out = cond (nat_le 64 (length out)) (over (answer_bytes (Refused r)) out) out
+written (Err r) out = if nat_le 64 (length out) then over (answer_bytes (Refused r)) out else out
 
 -- what the code's reply says
 abbrev pub said : Result (Order Ranged) RefusedAt → Reply

@@ -1,34 +1,30 @@
-// Answers orders: the checks in their order, and then the order done.
+//! Answers orders: the checks in their order, and then the order done.
 #![tactic(auto)]
 
-ghost use Rattle.std.specs.Prelude.{◌≡◌, ◌&&◌, length, if◌then◌else◌, Some, None, Err, nat_le};
+ghost use Rattle.std.specs.Prelude.{◌≡◌, length, Err};
+ghost use Rattle.scale.specs.Range.{place_of};
 ghost use Rattle.answers.specs.Reply.{reply, said, written};
 
-use scale::tuning::Tuning;
+use scale::tuning::{RangeError, Tuning};
 use wire::answer::{Answer, Refusal, Refused};
 use wire::order::{Order, RawTuning};
 
 #[cfg(test)]
 mod tests;
 
-// How many bytes an answer is lent.
+/// How many bytes an answer is lent.
 pub const ROOM: usize = 64;
 
-// In units.
-const LARGEST_OCTAVE: u32 = 1_000_000_000;
-
-// Answers the order: a refusal's bytes are written to the front of `out`, if that has room; what passes the checks is handed on.
+/// Answers the order: a refusal's bytes are written to the front of `out`, if that has room; what passes the checks is handed on.
 pub fn answer(order: &[u8], out: &mut [u8]) -> Result<Order<Tuning>, Refused>
     ensures value { said result ≡ reply order.now (length out.old) }
     ensures after { out.new ≡ written (reply order.now (length out.old)) out.old }
 {
-    match checked(order, out.len()) {
-        Err(refused) => {
-            refuse(refused, out);
-            Err(refused)
-        }
-        Ok(order) => Ok(order),
+    let reply = checked(order, out.len());
+    if let Err(refused) = reply {
+        refuse(refused, out);
     }
+    reply
 }
 
 // The checks, in their order.
@@ -43,23 +39,18 @@ fn checked(bytes: &[u8], room: usize) -> Result<Order<Tuning>, Refused>
         interval,
         notes,
     } = order.tuning();
-    let Some(octave) = within(1, octave, LARGEST_OCTAVE) else {
-        return Err(Refusal::OutOfRange.at(0));
-    };
-    let Some(interval) = within(0, interval, octave - 1) else {
-        return Err(Refusal::OutOfRange.at(1));
-    };
-    let Some(notes) = within(1, notes, octave) else {
-        return Err(Refusal::OutOfRange.at(2));
-    };
+    let tuning = Tuning::new(octave, interval, notes).map_err(out_of_range)?;
     let Some(_) = room.checked_sub(ROOM) else {
         return Err(Refusal::NoRoom.at(0));
     };
-    Ok(order.asked_of(Tuning {
-        octave,
-        interval,
-        notes,
-    }))
+    Ok(order.asked_of(tuning))
+}
+
+// The refusal of a tuning whose first number out of range is this one.
+fn out_of_range(number: RangeError) -> Refused
+    ensures { result ≡ record { refusal = Refusal.OutOfRange; place = place_of number } }
+{
+    Refusal::OutOfRange.at(number.place())
 }
 
 // Writes a refusal, if there is room for an answer.
@@ -68,16 +59,5 @@ fn refuse(refused: Refused, out: &mut [u8])
 {
     if out.len() >= ROOM {
         let _ = Answer::Refused(refused).write(out);
-    }
-}
-
-// A number that is in range.
-fn within(least: u32, number: u32, most: u32) -> Option<u32>
-    ensures { result ≡ (if nat_le least number && nat_le number most then Some number else None) }
-{
-    if least <= number && number <= most {
-        Some(number)
-    } else {
-        None
     }
 }

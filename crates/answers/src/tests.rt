@@ -1,4 +1,4 @@
-// The checks, by example.
+//! The checks, by example.
 use super::{ROOM, answer};
 use std::test::Fail;
 use wire::order::{Order, RawTuning};
@@ -22,7 +22,7 @@ fn a_refusal_is_written_to_the_front(rt: HostRuntime) -> Result<(), Fail> {
     let Err(refused) = answer(&FIFTHS.asked_of(too_wide).to_bytes(), &mut out) else {
         return Err(Fail::new("the interval is not below the octave"));
     };
-    assert_eq!(rt; refused.refusal.number(), 2);
+    assert_eq!(rt; u32::from(refused.refusal), 2);
     assert_eq!(rt; refused.place, 1);
     assert!(rt; &out[0..10] == [0, 2, 0, 0, 0, 1, 0, 0, 0, 7].as_slice());
     Ok(())
@@ -34,11 +34,11 @@ fn too_little_room_comes_last(rt: HostRuntime) -> Result<(), Fail> {
     let Err(unread) = answer(b"", &mut out) else {
         return Err(Fail::new("no bytes are no order"));
     };
-    assert_eq!(rt; unread.refusal.number(), 1);
+    assert_eq!(rt; u32::from(unread.refusal), 1);
     let Err(refused) = answer(&FIFTHS.to_bytes(), &mut out) else {
         return Err(Fail::new("63 bytes are too few"));
     };
-    assert_eq!(rt; refused.refusal.number(), 3);
+    assert_eq!(rt; u32::from(refused.refusal), 3);
     assert_eq!(rt; out, [7; 63]);
     Ok(())
 }

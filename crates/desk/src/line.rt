@@ -29,7 +29,7 @@ impl fmt::Display for Line {
         match &self.0 {
             Ok(_) => f.write_str("pending"),
             Err(refused) => {
-                let number = refused.refusal.number();
+                let number = u32::from(refused.refusal);
                 let place = refused.place;
                 write!(f, "refused {number} at {place}")
             }

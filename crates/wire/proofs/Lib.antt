@@ -1,5 +1,5 @@
 pub mod AnswerLaws
-pub mod Fronts
+pub mod Apart
 pub mod Misfits
 pub mod Numbers
 pub mod OrderLaws

@@ -7,7 +7,8 @@ use Rattle.wire.specs.declared.order.RawTuning.{RawTuning}
 use Rattle.wire.specs.declared.order.Order.{Order}
 use Rattle.wire.specs.declared.order.Order.TheVariants.{Place, Next, At, Sizes, Whole}
 use Rattle.wire.specs.Bytes.{number_of, part}
-use Rattle.wire.specs.Laws.{Begins, Bytes, OrdersCease}
+use Rattle.wire.specs.Laws.{Begins, OrdersCease}
+use Rattle.wire.specs.Messages.{Bytes}
 use Rattle.wire.specs.Orders.{kind, misfit, tuning_in, order_bytes, order_of, own_misfit, read_order}
 use Rattle.wire.proofs.Numbers.{four_from, number_from, take_padded}
 use Rattle.wire.proofs.OrderLaws.{order_stands, stands_bytes, stands_fits}
@@ -24,19 +25,11 @@ order_there k x t h z = by (cases_eq k 0) (cases_eq k 1) (cases_eq k 2) (cases_e
     by (inr a) (inr b) (inr c) (inr d) = (Whole t x, grind (arith, nat_tests))
 
 kind_small : (o : Order RawTuning) → kind o ≤ 4
-kind_small (Place t x) = omega arith
-kind_small (Next t x) = omega arith
-kind_small (At t x) = omega arith
-kind_small (Sizes t) = omega arith
-kind_small (Whole t x) = omega arith
+kind_small o = grind arith
 
 -- the own number of sizes is 0
 own_zero : (o : Order RawTuning) → kind o ≡ 3 → (i : ℕ) → 13 ≤ i → i < 17 → get_or (order_bytes o) i 0 ≡ 0
-own_zero (Place t x) h i low high = absurd (omega arith)
-own_zero (Next t x) h i low high = absurd (omega arith)
-own_zero (At t x) h i low high = absurd (omega arith)
-own_zero (Sizes t) h i low high = grind (arith, nat_tests, cases_eq i 13, cases_eq i 14, cases_eq i 15, cases_eq i 16)
-own_zero (Whole t x) h i low high = absurd (omega arith)
+own_zero o h i low high = grind (arith, nat_tests, cases_eq i 13, cases_eq i 14, cases_eq i 15, cases_eq i 16)
 
 module _ (bs : List ℕ) where
   bounds : (misfit bs ≤ length bs) × (misfit bs ≤ 17) × (4 < get_or bs 0 0 → misfit bs ≡ 0) × (get_or bs 0 0 ≡ 3 → misfit bs ≤ own_misfit bs)
@@ -115,8 +108,7 @@ module _ (bs : List ℕ) (small : Bytes bs) where
         let low : get_or bs 0 0 ≤ 4 = omega (arith, kind_small o, same_kind) in
         let there = order_there (get_or bs 0 0) (number_of (part 13 4 bs)) (tuning_in (part 1 12 bs)) low (λ three. own_none bs (omega (arith, (bounds bs).3 three, own_few bs))) in
         let not : order_of (get_or bs 0 0) (tuning_in (part 1 12 bs)) (number_of (part 13 4 bs)) ≡ None = rw long at none in
-        let absurd_pair : ◌≡◌ {A = ℕ} 0 1 = cc (there.1, not) in
-        omega arith
+        cc (there.1, not)
 
     short_past : misfit bs < 17 → ⊥
     short_past short =

@@ -1,32 +1,12 @@
 -- A number and its four bytes. Assumes nothing.
-use Rattle.std.proofs.Common.{◌≡◌, ℕ, zero, suc, ◌+◌, ◌*◌, ◌/◌, ◌%◌, ◌^◌, ◌<◌, ◌≤◌, List, [], ◌∷◌, ◌++◌, length, get_or, take, drop, sym, refl, ap, ◌∙◌, not-suc-le-zero, add-zero, mod-eq_of_lt, zero-add, arith}
-use native.Mathlib.Nat.{div-div-eq-div-mul}
+use Rattle.std.proofs.Common.{◌≡◌, ℕ, zero, suc, ◌+◌, ◌^◌, ◌<◌, ◌≤◌, List, [], ◌∷◌, length, get_or, take, drop, sym, refl, ap, ◌∙◌, not-suc-le-zero, add-zero, zero-add, arith}
+use Rattle.std.proofs.lemmas.Nat.{from_le_bytes-to_le_bytes_4, le_bytes_4}
 use Rattle.std.proofs.lemmas.List.{drop-drop, drop-take, ext_get_or, get_or-drop, get_or-take, length-take-le, take_all, take-take}
 use Rattle.wire.specs.Bytes.{four, number_of, part}
-use Rattle.wire.specs.Laws.{Bytes}
+use Rattle.wire.specs.Messages.{Bytes}
 
 pub number_of_four : (n : ℕ) → n < 2 ^ 32 → number_of (four n) ≡ n
-number_of_four n h =
-    let small : n / 16777216 < 256 = omega arith in
-    let two : n / 65536 ≡ n / 256 / 256 = sym (div-div-eq-div-mul n 256 256) in
-    let three : n / 16777216 ≡ n / 65536 / 256 = sym (div-div-eq-div-mul n 65536 256) in
-    rw (mod-eq_of_lt small) (omega arith)
-
-module _ (a b c d : ℕ) (ha : a < 256) (hb : b < 256) (hc : c < 256) (hd : d < 256) where
-  first : (a + b * 256 + c * 65536 + d * 16777216) % 256 ≡ a
-  first = omega arith
-
-  second : (a + b * 256 + c * 65536 + d * 16777216) / 256 % 256 ≡ b
-  second = omega arith
-
-  third : (a + b * 256 + c * 65536 + d * 16777216) / 65536 % 256 ≡ c
-  third = omega arith
-
-  fourth : (a + b * 256 + c * 65536 + d * 16777216) / 16777216 % 256 ≡ d
-  fourth = omega arith
-
-  four_number_of : four (number_of (a ∷ b ∷ c ∷ d ∷ [])) ≡ a ∷ b ∷ c ∷ d ∷ []
-  four_number_of = cc (first, second, third, fourth)
+number_of_four = from_le_bytes-to_le_bytes_4
 
 -- four bytes of a part
 pub part_in : (bs : List ℕ) (i j m : ℕ) → 4 ≤ m → part j 4 (part i (j + m) bs) ≡ part (i + j) 4 bs
@@ -47,11 +27,16 @@ module _ (bs : List ℕ) (small : Bytes bs) where
   pub number_fits : (i : ℕ) {n : ℕ} → n ≡ number_of (part i 4 bs) → n < 2 ^ 32
   number_fits i e = rw (e, number_from bs i) (omega (arith, small i, small (i + 1), small (i + 2), small (i + 3)))
 
+  small_from : (i : ℕ) → Bytes (four_from i bs)
+  small_from i zero = small i
+  small_from i (suc zero) = small (i + 1)
+  small_from i (suc (suc zero)) = small (i + 2)
+  small_from i (suc (suc (suc zero))) = small (i + 3)
+  small_from i (suc (suc (suc (suc j)))) = omega arith
+
   -- a number that stands at a place has the bytes that stand there
   pub number_at : (i : ℕ) {n : ℕ} → n ≡ number_of (part i 4 bs) → four n ≡ four_from i bs
-  number_at i e =
-      ap four (e ∙ number_from bs i)
-      ∙ four_number_of (get_or bs i 0) (get_or bs (i + 1) 0) (get_or bs (i + 2) 0) (get_or bs (i + 3) 0) (small i) (small (i + 1)) (small (i + 2)) (small (i + 3))
+  number_at i {n} e = le_bytes_4 (four_from i bs) n refl (small_from i) (e ∙ number_from bs i)
 
 -- n bytes from a place on, 0 for those that are missing
 abbrev pub padded : ℕ → ℕ → List ℕ → List ℕ
@@ -85,10 +70,3 @@ padded_all n bs long =
     sym (take_all n (padded 0 n bs) (omega (arith, length_padded 0 n bs)))
     ∙ take_padded bs bs n n (omega arith) (omega arith) (λ i h. refl)
     ∙ take_all n bs (omega arith)
-
--- lists that are joined of the same parts
-pub same_join : {a a' b b' : List ℕ} → a ≡ a' → b ≡ b' → a ++ b ≡ a' ++ b'
-same_join e f = cc
-
-pub same_after : {k k' : ℕ} {a a' : List ℕ} → k ≡ k' → a ≡ a' → k ∷ a ≡ k' ∷ a'
-same_after e f = cc

@@ -3,32 +3,25 @@ use Rattle.std.proofs.Common.{◌≡◌, ℕ, List, length, get_or, Some, sym, a
 use Rattle.std.proofs.lemmas.Bool.Decides.{nat_tests}
 use Rattle.wire.specs.declared.order.RawTuning.{RawTuning}
 use Rattle.wire.specs.declared.order.Order.{Order}
-use Rattle.wire.specs.declared.order.Order.TheVariants.{Place, Next, At, Sizes, Whole}
 use Rattle.wire.specs.Bytes.{number_of, part}
-use Rattle.wire.specs.Laws.{Bytes, FitsOrder, OrdersReadBack, OnlyOrdersRead, OrdersApart}
+use Rattle.wire.specs.Laws.{FitsOrder, OrdersReadBack, OnlyOrdersRead, OrdersApart}
+use Rattle.wire.specs.Messages.{Bytes}
 use Rattle.wire.specs.Orders.{kind, tuning_bytes, tuning_in, order_bytes, order_of, own, read_order, tuning_of}
-use Rattle.wire.proofs.Numbers.{number_of_four, part_in, number_at, number_fits, padded, padded_all, same_after, same_join}
+use Rattle.wire.proofs.Apart.{apart}
+use Rattle.wire.proofs.Numbers.{number_of_four, part_in, number_at, number_fits, padded, padded_all}
 
 tuning_back : (o : Order RawTuning) → FitsOrder o → tuning_of o ≡ tuning_in (tuning_bytes (tuning_of o))
 tuning_back o fits = rw (number_of_four (tuning_of o).octave fits.0, number_of_four (tuning_of o).interval fits.1, number_of_four (tuning_of o).notes fits.2)
 
 pub orders_read_back : OrdersReadBack
-orders_read_back (Place t x) fits = cc (tuning_back (Place t x) fits, number_of_four x fits.3)
-orders_read_back (Next t x) fits = cc (tuning_back (Next t x) fits, number_of_four x fits.3)
-orders_read_back (At t x) fits = cc (tuning_back (At t x) fits, number_of_four x fits.3)
-orders_read_back (Sizes t) fits = cc (tuning_back (Sizes t) fits)
-orders_read_back (Whole t x) fits = cc (tuning_back (Whole t x) fits, number_of_four x fits.3)
+orders_read_back o fits = grind (arith, tuning_back, number_of_four)
 
 pub orders_apart : OrdersApart
-orders_apart o p fits_o fits_p same = cc (orders_read_back o fits_o, orders_read_back p fits_p, ap read_order same)
+orders_apart = apart order_bytes read_order FitsOrder orders_read_back
 
 -- the order of a kind has that kind and these numbers
 order_of_parts : (k x : ℕ) (t : RawTuning) (o : Order RawTuning) → order_of k t x ≡ Some o → (kind o ≡ k) × (tuning_of o ≡ t) × (own o ≡ x)
-order_of_parts k x t (Place u y) h = grind (arith, nat_tests)
-order_of_parts k x t (Next u y) h = grind (arith, nat_tests)
-order_of_parts k x t (At u y) h = grind (arith, nat_tests)
-order_of_parts k x t (Sizes u) h = grind (arith, nat_tests)
-order_of_parts k x t (Whole u y) h = grind (arith, nat_tests)
+order_of_parts k x t o h = grind (arith, nat_tests)
 
 -- the order's numbers stand in a list, each in its place
 pub record Stands (bs : List ℕ) (o : Order RawTuning) : Type 0 where
@@ -52,10 +45,13 @@ order_stands bs o h =
 module _ (bs : List ℕ) (small : Bytes bs) {o : Order RawTuning} (stands : Stands bs o) where
   pub stands_bytes : order_bytes o ≡ padded 0 17 bs
   stands_bytes =
-      let octave = number_at bs small 1 stands.octave_is in
-      let interval = number_at bs small 5 stands.interval_is in
-      let notes = number_at bs small 9 stands.notes_is in
-      same_after stands.kind_is (same_join (same_join octave (same_join interval notes)) (number_at bs small 13 stands.own_is))
+      cc (
+        stands.kind_is,
+        number_at bs small 1 stands.octave_is,
+        number_at bs small 5 stands.interval_is,
+        number_at bs small 9 stands.notes_is,
+        number_at bs small 13 stands.own_is,
+      )
 
   pub stands_fits : FitsOrder o
   stands_fits = (

@@ -1,5 +1,5 @@
 -- What an answer's bytes are, and which answer bytes are. Assumes nothing: these are definitions.
-use Rattle.std.specs.Prelude.{ℕ, Bool, cond, ◌&&◌, List, [], ◌∷◌, ◌++◌, length, Some, None, Option, ◌==◌, nat_le, slice_index}
+use Rattle.std.specs.Prelude.{ℕ, Bool, if◌then◌else◌, ◌&&◌, List, [], ◌∷◌, ◌++◌, length, Some, None, Option, ◌==◌, nat_le, slice_index}
 use Rattle.std.specs.Option.{option_map}
 use Rattle.wire.specs.Bytes.{four, number_of, part}
 use Rattle.wire.specs.declared.answer.Refusal.{Refusal}
@@ -33,6 +33,13 @@ pairs_bytes (One p) = pair_bytes p
 pairs_bytes (Two p q) = pair_bytes p ++ pair_bytes q
 pairs_bytes (Three p q r) = pair_bytes p ++ (pair_bytes q ++ pair_bytes r)
 
+-- the number that is an answer's first byte
+abbrev pub kind : Answer → ℕ
+kind (Refused r) = 0
+kind (Number n) = 1
+kind (Numbers p) = 2
+kind (Listed ps) = 3
+
 abbrev pub answer_bytes : Answer → List ℕ
 answer_bytes (Refused r) = 0 ∷ (four (refusal_number r.refusal) ++ four r.place)
 answer_bytes (Number n) = 1 ∷ four n
@@ -41,11 +48,12 @@ answer_bytes (Listed ps) = 3 ∷ (four (count ps) ++ pairs_bytes ps)
 
 abbrev pub refusal_of : ℕ → Option Refusal
 refusal_of n =
-    cond (n == 1) (Some Unreadable)
-    (cond (n == 2) (Some OutOfRange)
-    (cond (n == 3) (Some NoRoom)
-    (cond (n == 4) (Some NotAllDifferent)
-    (cond (n == 5) (Some NotThere) None))))
+    if n == 1 then Some Unreadable
+    else if n == 2 then Some OutOfRange
+    else if n == 3 then Some NoRoom
+    else if n == 4 then Some NotAllDifferent
+    else if n == 5 then Some NotThere
+    else None
 
 -- the pair that eight bytes are
 abbrev pub pair_of : List ℕ → Pair
@@ -58,10 +66,11 @@ read_refused bs = option_map (λ r. record { refusal = r; place = number_of (par
 -- so many of three pairs, in an answer of so many bytes
 abbrev pub pairs_of : ℕ → ℕ → Pair → Pair → Pair → Option Pairs
 pairs_of c n p q r =
-    cond (c == 0 && n == 5) (Some Zero)
-    (cond (c == 1 && n == 13) (Some (One p))
-    (cond (c == 2 && n == 21) (Some (Two p q))
-    (cond (c == 3 && n == 29) (Some (Three p q r)) None)))
+    if c == 0 && n == 5 then Some Zero
+    else if c == 1 && n == 13 then Some (One p)
+    else if c == 2 && n == 21 then Some (Two p q)
+    else if c == 3 && n == 29 then Some (Three p q r)
+    else None
 
 abbrev pub read_pairs : List ℕ → Option Pairs
 read_pairs bs = pairs_of (number_of (part 1 4 bs)) (length bs) (pair_of (part 5 8 bs)) (pair_of (part 13 8 bs)) (pair_of (part 21 8 bs))
@@ -69,10 +78,11 @@ read_pairs bs = pairs_of (number_of (part 1 4 bs)) (length bs) (pair_of (part 5 
 -- the answer of a kind, with so many bytes, by what stands after the kind
 abbrev pub answer_of : ℕ → ℕ → Option RefusedAt → ℕ → Pair → Option Pairs → Option Answer
 answer_of k n r x p ps =
-    cond (k == 0 && n == 9) (option_map Refused r)
-    (cond (k == 1 && n == 5) (Some (Number x))
-    (cond (k == 2 && n == 9) (Some (Numbers p))
-    (cond (k == 3) (option_map Listed ps) None)))
+    if k == 0 && n == 9 then option_map Refused r
+    else if k == 1 && n == 5 then Some (Number x)
+    else if k == 2 && n == 9 then Some (Numbers p)
+    else if k == 3 then option_map Listed ps
+    else None
 
 -- the answer that a list of bytes is, if it is one
 abbrev pub read_answer : List ℕ → Option Answer

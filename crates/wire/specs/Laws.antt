@@ -1,6 +1,6 @@
 -- What holds of every order and every answer. Each is a statement, a type whose proof is owed where the contract of a function names it.
 -- Assumes nothing: these are definitions.
-use Rattle.std.specs.Prelude.{◌≡◌, ℕ, suc, ◌^◌, ◌<◌, ◌≤◌, List, length, take, Some, None, ◌≢◌, slice_index}
+use Rattle.std.specs.Prelude.{◌≡◌, ℕ, suc, ◌^◌, ◌<◌, ◌≤◌, List, length, take, None, ◌≢◌}
 use Rattle.wire.specs.declared.answer.Answer.{Answer}
 use Rattle.wire.specs.declared.answer.Answer.TheVariants.{Refused, Number, Numbers, Listed}
 use Rattle.wire.specs.declared.answer.Pair.{Pair}
@@ -9,11 +9,8 @@ use Rattle.wire.specs.declared.answer.Pairs.TheVariants.{Zero, One, Two, Three}
 use Rattle.wire.specs.declared.order.RawTuning.{RawTuning}
 use Rattle.wire.specs.declared.order.Order.{Order}
 use Rattle.wire.specs.Answers.{answer_bytes, read_answer}
+use Rattle.wire.specs.Messages.{Apart, Bytes, OnlyRead, ReadBack}
 use Rattle.wire.specs.Orders.{tuning_of, own, order_bytes, read_order, misfit}
-
--- each is below 256
-abbrev pub Bytes : List ℕ → Type 0
-Bytes bs = (i : ℕ) → slice_index bs i < 256
 
 -- an order whose numbers fit four bytes
 abbrev pub FitsOrder : Order RawTuning → Type 0
@@ -21,15 +18,15 @@ FitsOrder o = ((tuning_of o).octave < 2 ^ 32) × ((tuning_of o).interval < 2 ^ 3
 
 -- the bytes of an order are read as that order
 abbrev pub OrdersReadBack : Type 0
-OrdersReadBack = (o : Order RawTuning) → FitsOrder o → read_order (order_bytes o) ≡ Some o
+OrdersReadBack = ReadBack order_bytes read_order FitsOrder
 
 -- and no others are
 abbrev pub OnlyOrdersRead : Type 0
-OnlyOrdersRead = (bs : List ℕ) → Bytes bs → (o : Order RawTuning) → read_order bs ≡ Some o → bs ≡ order_bytes o
+OnlyOrdersRead = OnlyRead order_bytes read_order
 
 -- two orders have different bytes
 abbrev pub OrdersApart : Type 0
-OrdersApart = (o p : Order RawTuning) → FitsOrder o → FitsOrder p → order_bytes o ≡ order_bytes p → o ≡ p
+OrdersApart = Apart order_bytes FitsOrder
 
 -- some order begins with the first p of these bytes
 abbrev pub Begins : List ℕ → ℕ → Type 0
@@ -63,12 +60,12 @@ FitsAnswer (Listed ps) = FitsPairs ps
 
 -- the bytes of an answer are read as that answer
 abbrev pub AnswersReadBack : Type 0
-AnswersReadBack = (a : Answer) → FitsAnswer a → read_answer (answer_bytes a) ≡ Some a
+AnswersReadBack = ReadBack answer_bytes read_answer FitsAnswer
 
 -- and no others are
 abbrev pub OnlyAnswersRead : Type 0
-OnlyAnswersRead = (bs : List ℕ) → Bytes bs → (a : Answer) → read_answer bs ≡ Some a → bs ≡ answer_bytes a
+OnlyAnswersRead = OnlyRead answer_bytes read_answer
 
 -- two answers have different bytes
 abbrev pub AnswersApart : Type 0
-AnswersApart = (a b : Answer) → FitsAnswer a → FitsAnswer b → answer_bytes a ≡ answer_bytes b → a ≡ b
+AnswersApart = Apart answer_bytes FitsAnswer

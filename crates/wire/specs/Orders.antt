@@ -1,5 +1,5 @@
 -- What an order's bytes are, which order bytes are, and where they cease to be one. Assumes nothing: these are definitions.
-use Rattle.std.specs.Prelude.{ℕ, min, cond, ◌&&◌, List, ◌∷◌, ◌++◌, length, Some, None, Option, ◌==◌, nat_lt, slice_index}
+use Rattle.std.specs.Prelude.{ℕ, min, if◌then◌else◌, ◌&&◌, List, ◌∷◌, ◌++◌, length, Some, None, Option, ◌==◌, nat_lt, slice_index}
 use Rattle.wire.specs.Bytes.{four, number_of, part}
 use Rattle.wire.specs.declared.order.RawTuning.{RawTuning}
 use Rattle.wire.specs.declared.order.Order.{Order}
@@ -49,11 +49,12 @@ order_bytes o = kind o ∷ (tuning_bytes (tuning_of o) ++ four (own o))
 -- the order of a kind, if there is one: the own number of sizes is 0
 abbrev pub order_of : ℕ → RawTuning → ℕ → Option (Order RawTuning)
 order_of k t x =
-    cond (k == 0) (Some (Place t x))
-    (cond (k == 1) (Some (Next t x))
-    (cond (k == 2) (Some (At t x))
-    (cond (k == 3 && x == 0) (Some (Sizes t))
-    (cond (k == 4) (Some (Whole t x)) None))))
+    if k == 0 then Some (Place t x)
+    else if k == 1 then Some (Next t x)
+    else if k == 2 then Some (At t x)
+    else if k == 3 && x == 0 then Some (Sizes t)
+    else if k == 4 then Some (Whole t x)
+    else None
 
 -- the numbers that 12 bytes are
 abbrev pub tuning_in : List ℕ → RawTuning
@@ -61,17 +62,22 @@ tuning_in bs = record { octave = number_of (part 0 4 bs); interval = number_of (
 
 -- the order that a list of bytes is, if it is one
 abbrev pub read_order : List ℕ → Option (Order RawTuning)
-read_order bs = cond (length bs == 17) (order_of (slice_index bs 0) (tuning_in (part 1 12 bs)) (number_of (part 13 4 bs))) None
+read_order bs =
+    if length bs == 17 then order_of (slice_index bs 0) (tuning_in (part 1 12 bs)) (number_of (part 13 4 bs))
+    else None
 
 -- the first place of an own number whose byte is not 0, or the place past it
 abbrev pub own_misfit : List ℕ → ℕ
 own_misfit bs =
-    cond (nat_lt 0 (slice_index bs 13)) 13
-    (cond (nat_lt 0 (slice_index bs 14)) 14
-    (cond (nat_lt 0 (slice_index bs 15)) 15
-    (cond (nat_lt 0 (slice_index bs 16)) 16 17)))
+    if nat_lt 0 (slice_index bs 13) then 13
+    else if nat_lt 0 (slice_index bs 14) then 14
+    else if nat_lt 0 (slice_index bs 15) then 15
+    else if nat_lt 0 (slice_index bs 16) then 16
+    else 17
 
 -- the place of the first byte that doesn't fit: the kind if it is above 4, the end of too few bytes, the byte past 17, and the own number of sizes
 -- where it is not 0; the least of these
 abbrev pub misfit : List ℕ → ℕ
-misfit bs = min (min (length bs) 17) (min (cond (nat_lt 4 (slice_index bs 0)) 0 17) (cond (slice_index bs 0 == 3) (own_misfit bs) 17))
+misfit bs =
+    min (min (length bs) 17)
+    (min (if nat_lt 4 (slice_index bs 0) then 0 else 17) (if slice_index bs 0 == 3 then own_misfit bs else 17))

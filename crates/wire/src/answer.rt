@@ -1,48 +1,59 @@
-// Answers, and their bytes.
+//! Answers, and their bytes.
 ghost use Rattle.std.specs.Prelude.{◌≡◌, ◌≤◌, length, if◌then◌else◌, Some, None};
-ghost use Rattle.wire.specs.Answers.{refusal_number, refusal_of, count, pair_bytes, pairs_bytes, answer_bytes, has_room, pair_of, read_pairs, read_answer};
+ghost use Rattle.std.specs.Option.{ok_or};
+ghost use Rattle.wire.specs.AnswerKinds.{kind_of, kind_number};
+ghost use Rattle.wire.specs.Answers.{refusal_number, refusal_of, kind, count, pair_bytes, pairs_bytes, answer_bytes, has_room, pair_of, read_pairs, read_answer};
 ghost use Rattle.wire.specs.Bytes.{over};
 
-use super::bytes::{number, put_number};
+use super::bytes::{NoKind, Part};
 
-// Why an order is refused, in the order of the checks.
-#[derive(Clone, Copy)]
+/// Why an order is refused, in the order of the checks.
+#[derive(Clone, Copy, Debug, PartialEq, Eq)]
 pub enum Refusal {
-    // it can't be read
+    /// it can't be read
     Unreadable = 1,
-    // a number of the tuning is out of range
+    /// a number of the tuning is out of range
     OutOfRange = 2,
-    // there is too little room for an answer
+    /// there is too little room for an answer
     NoRoom = 3,
-    // two of the tuning's notes have the same height
+    /// two of the tuning's notes have the same height
     NotAllDifferent = 4,
-    // there is no such note, place or number of notes
+    /// there is no such note, place or number of notes
     NotThere = 5,
 }
 
-impl Refusal {
-    // The number by which the refusal goes in an answer.
-    pub fn number(self) -> u32
-        ensures { result ≡ refusal_number self }
-    {
-        self as u32
-    }
+/// A number that is no refusal's.
+#[derive(Clone, Copy, Debug, PartialEq, Eq)]
+pub struct NoRefusal;
 
-    // The refusal of a number, if there is one.
-    pub fn of_number(number: u32) -> Option<Refusal>
-        ensures { result ≡ refusal_of number }
-    {
+impl TryFrom<u32> for Refusal {
+    type Error = NoRefusal;
+
+    ghost try_from_gives = { λ number result. result ≡ ok_or (refusal_of number) (record {}) };
+
+    fn try_from(number: u32) -> Result<Refusal, NoRefusal> {
         match number {
-            1 => Some(Refusal::Unreadable),
-            2 => Some(Refusal::OutOfRange),
-            3 => Some(Refusal::NoRoom),
-            4 => Some(Refusal::NotAllDifferent),
-            5 => Some(Refusal::NotThere),
-            _ => None,
+            1 => Ok(Refusal::Unreadable),
+            2 => Ok(Refusal::OutOfRange),
+            3 => Ok(Refusal::NoRoom),
+            4 => Ok(Refusal::NotAllDifferent),
+            5 => Ok(Refusal::NotThere),
+            _ => Err(NoRefusal),
         }
     }
+}
 
-    // The refusal at a place.
+/// The number by which the refusal goes in an answer.
+impl From<Refusal> for u32 {
+    ghost from_gives = { λ refusal number. number ≡ refusal_number refusal };
+
+    fn from(refusal: Refusal) -> u32 {
+        refusal as u32
+    }
+}
+
+impl Refusal {
+    /// The refusal at a place.
     pub fn at(self, place: u32) -> Refused
         ensures { (result.refusal ≡ self) × (result.place ≡ place) }
     {
@@ -53,44 +64,42 @@ impl Refusal {
     }
 }
 
-// A refusal, and the place that it speaks of.
-#[derive(Clone, Copy)]
+/// A refusal, and the place that it speaks of.
+#[derive(Clone, Copy, Debug, PartialEq, Eq)]
 pub struct Refused {
     pub refusal: Refusal,
     pub place: u32,
 }
 
-// Two numbers that go together, as a note and a step.
-#[derive(Clone, Copy)]
+/// Two numbers that go together, as a note and a step.
+#[derive(Clone, Copy, Debug, PartialEq, Eq)]
 pub struct Pair {
     pub first: u32,
     pub second: u32,
 }
 
-impl Pair {
-    // The pair that eight bytes are.
-    fn read(bytes: &[u8]) -> Pair
-        requires { length bytes.now ≡ 8 }
-        ensures { result ≡ pair_of bytes.now }
-    {
+impl Part for Pair {
+    ghost size = { 8 };
+
+    ghost bytes_of = { pair_bytes };
+
+    ghost value_of = { pair_of };
+
+    fn read(bytes: &[u8]) -> Pair {
         Pair {
-            first: number(&bytes[0..4]),
-            second: number(&bytes[4..8]),
+            first: u32::read(&bytes[0..4]),
+            second: u32::read(&bytes[4..8]),
         }
     }
 
-    // Writes the pair's eight bytes.
-    fn put(self, out: &mut [u8])
-        requires { length out.old ≡ 8 }
-        ensures { out.new ≡ pair_bytes self }
-    {
-        put_number(&mut out[0..4], self.first);
-        put_number(&mut out[4..8], self.second);
+    fn put(self, out: &mut [u8]) {
+        self.first.put(&mut out[0..4]);
+        self.second.put(&mut out[4..8]);
     }
 }
 
-// Up to three pairs.
-#[derive(Clone, Copy)]
+/// Up to three pairs.
+#[derive(Clone, Copy, Debug, PartialEq, Eq)]
 pub enum Pairs {
     Zero,
     One(Pair),
@@ -99,7 +108,7 @@ pub enum Pairs {
 }
 
 impl Pairs {
-    // How many pairs there are.
+    /// How many pairs there are.
     pub fn count(self) -> u32
         ensures { result ≡ count self }
     {
@@ -111,14 +120,14 @@ impl Pairs {
         }
     }
 
-    // The pairs of an answer, if there are as many as it says.
+    /// The pairs of an answer, if there are as many as it says.
     fn read(bytes: &[u8]) -> Option<Pairs>
         ensures { result ≡ read_pairs bytes.now }
     {
         if bytes.len() < 5 {
             return None;
         }
-        match (number(&bytes[1..5]), bytes.len()) {
+        match (u32::read(&bytes[1..5]), bytes.len()) {
             (0, 5) => Some(Pairs::Zero),
             (1, 13) => Some(Pairs::One(Pair::read(&bytes[5..13]))),
             (2, 21) => Some(Pairs::Two(Pair::read(&bytes[5..13]), Pair::read(&bytes[13..21]))),
@@ -131,7 +140,7 @@ impl Pairs {
         }
     }
 
-    // Writes the pairs to the front.
+    /// Writes the pairs to the front.
     fn put(self, out: &mut [u8])
         requires { length (pairs_bytes self) ≤ length out.old }
         ensures { out.new ≡ over (pairs_bytes self) out.old }
@@ -152,8 +161,41 @@ impl Pairs {
     }
 }
 
-// What is answered to an order.
-#[derive(Clone, Copy)]
+/// The kind of an answer, by the number that is its first byte.
+#[derive(Clone, Copy, Debug, PartialEq, Eq)]
+enum Kind {
+    Refused = 0,
+    Number = 1,
+    Numbers = 2,
+    Listed = 3,
+}
+
+impl TryFrom<u8> for Kind {
+    type Error = NoKind;
+
+    ghost try_from_gives = { λ byte result. result ≡ ok_or (kind_of byte) (record {}) };
+
+    fn try_from(byte: u8) -> Result<Kind, NoKind> {
+        match byte {
+            0 => Ok(Kind::Refused),
+            1 => Ok(Kind::Number),
+            2 => Ok(Kind::Numbers),
+            3 => Ok(Kind::Listed),
+            _ => Err(NoKind),
+        }
+    }
+}
+
+impl From<Kind> for u8 {
+    ghost from_gives = { λ kind byte. byte ≡ kind_number kind };
+
+    fn from(kind: Kind) -> u8 {
+        kind as u8
+    }
+}
+
+/// What is answered to an order.
+#[derive(Clone, Copy, Debug, PartialEq, Eq)]
 pub enum Answer {
     Refused(Refused),
     Number(u32),
@@ -162,7 +204,18 @@ pub enum Answer {
 }
 
 impl Answer {
-    // How many bytes the answer has.
+    fn kind(self) -> Kind
+        ensures { kind_number result ≡ kind self }
+    {
+        match self {
+            Answer::Refused(_) => Kind::Refused,
+            Answer::Number(_) => Kind::Number,
+            Answer::Numbers(_) => Kind::Numbers,
+            Answer::Listed(_) => Kind::Listed,
+        }
+    }
+
+    /// How many bytes the answer has.
     pub fn length(self) -> usize
         ensures { result ≡ length (answer_bytes self) }
     {
@@ -174,24 +227,24 @@ impl Answer {
         }
     }
 
-    // The answer that the bytes are, if they are one.
+    /// The answer that the bytes are, if they are one.
     pub fn read(bytes: &[u8]) -> Option<Answer>
         ensures { result ≡ read_answer bytes.now }
     {
-        match bytes {
-            [0, ..] if bytes.len() == 9 => {
-                let refusal = Refusal::of_number(number(&bytes[1..5]))?;
-                let place = number(&bytes[5..9]);
-                Some(Answer::Refused(Refused { refusal, place }))
+        match (Kind::try_from(*bytes.first()?).ok()?, bytes.len()) {
+            (Kind::Refused, 9) => {
+                let refusal = Refusal::try_from(u32::read(&bytes[1..5])).ok()?;
+                let place = u32::read(&bytes[5..9]);
+                Some(Answer::Refused(refusal.at(place)))
             }
-            [1, ..] if bytes.len() == 5 => Some(Answer::Number(number(&bytes[1..5]))),
-            [2, ..] if bytes.len() == 9 => Some(Answer::Numbers(Pair::read(&bytes[1..9]))),
-            [3, ..] => Some(Answer::Listed(Pairs::read(bytes)?)),
+            (Kind::Number, 5) => Some(Answer::Number(u32::read(&bytes[1..5]))),
+            (Kind::Numbers, 9) => Some(Answer::Numbers(Pair::read(&bytes[1..9]))),
+            (Kind::Listed, _) => Some(Answer::Listed(Pairs::read(bytes)?)),
             _ => None,
         }
     }
 
-    // Writes the answer to the front of `out`, and says how long it is; where there is too little room nothing is written.
+    /// Writes the answer to the front of `out`, and says how long it is; where there is too little room nothing is written.
     pub fn write(self, out: &mut [u8]) -> Option<usize>
         ensures value { result ≡ (if has_room self out.old then Some (length (answer_bytes self)) else None) }
         ensures after { out.new ≡ (if has_room self out.old then over (answer_bytes self) out.old else out.old) }
@@ -204,28 +257,21 @@ impl Answer {
         Some(length)
     }
 
-    // Writes the answer to the front.
+    /// Writes the answer to the front.
     fn put(self, out: &mut [u8])
         requires { length (answer_bytes self) ≤ length out.old }
         ensures { out.new ≡ over (answer_bytes self) out.old }
     {
+        out[0] = u8::from(self.kind());
         match self {
-            Answer::Refused(refused) => {
-                out[0] = 0;
-                put_number(&mut out[1..5], refused.refusal.number());
-                put_number(&mut out[5..9], refused.place);
+            Answer::Refused(Refused { refusal, place }) => {
+                u32::from(refusal).put(&mut out[1..5]);
+                place.put(&mut out[5..9]);
             }
-            Answer::Number(number) => {
-                out[0] = 1;
-                put_number(&mut out[1..5], number);
-            }
-            Answer::Numbers(pair) => {
-                out[0] = 2;
-                pair.put(&mut out[1..9]);
-            }
+            Answer::Number(number) => number.put(&mut out[1..5]),
+            Answer::Numbers(pair) => pair.put(&mut out[1..9]),
             Answer::Listed(pairs) => {
-                out[0] = 3;
-                put_number(&mut out[1..5], pairs.count());
+                pairs.count().put(&mut out[1..5]);
                 pairs.put(&mut out[5..]);
             }
         }

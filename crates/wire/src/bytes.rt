@@ -1,19 +1,42 @@
-// Numbers as four bytes, low byte first.
-ghost use Rattle.std.specs.Prelude.{◌≡◌, length};
+//! Parts: numbers, and what is made of numbers, each in so many bytes. Low bytes come first.
+ghost use Rattle.std.specs.Prelude.{◌≡◌, ℕ, List, length};
 ghost use Rattle.wire.specs.Bytes.{four, number_of};
 
-// The number that four bytes are.
-pub(crate) fn number(bytes: &[u8]) -> u32
-    requires { length bytes.now ≡ 4 }
-    ensures { result ≡ number_of bytes.now }
-{
-    u32::from_le_bytes([bytes[0], bytes[1], bytes[2], bytes[3]])
+/// A part of an order or an answer, whose bytes are as many for each of its values.
+pub(crate) trait Part: Copy {
+    ghost size: { ℕ };
+
+    ghost bytes_of: { Self → List ℕ };
+
+    ghost value_of: { List ℕ → Self };
+
+    /// The value that the bytes are.
+    fn read(bytes: &[u8]) -> Self
+        requires { length bytes.now ≡ size }
+        ensures { result ≡ value_of bytes.now };
+
+    /// Writes the value's bytes.
+    fn put(self, out: &mut [u8])
+        requires { length out.old ≡ size }
+        ensures { out.new ≡ bytes_of self };
 }
 
-// Writes the number's four bytes.
-pub(crate) fn put_number(out: &mut [u8], number: u32)
-    requires { length out.old ≡ 4 }
-    ensures { out.new ≡ four number }
-{
-    out.copy_from_slice(&number.to_le_bytes());
+/// A byte that is no kind.
+#[derive(Clone, Copy, Debug, PartialEq, Eq)]
+pub(crate) struct NoKind;
+
+impl Part for u32 {
+    ghost size = { 4 };
+
+    ghost bytes_of = { four };
+
+    ghost value_of = { number_of };
+
+    fn read(bytes: &[u8]) -> u32 {
+        u32::from_le_bytes([bytes[0], bytes[1], bytes[2], bytes[3]])
+    }
+
+    fn put(self, out: &mut [u8]) {
+        out.copy_from_slice(&self.to_le_bytes());
+    }
 }

@@ -1,7 +1,7 @@
-// What holds of every order and every answer. These functions do nothing: their contracts are the theorems.
+//! What holds of every order and every answer. These functions do nothing: their contracts are the theorems.
 ghost use Rattle.wire.specs.Laws.{OrdersReadBack, OnlyOrdersRead, OrdersApart, OrdersCease, AnswersReadBack, OnlyAnswersRead, AnswersApart};
 
-// An order's bytes are read as that order, no other bytes are, no two orders have the same, and what is no order ceases to be one at its misfit.
+/// An order's bytes are read as that order, no other bytes are, no two orders have the same, and what is no order ceases to be one at its misfit.
 pub fn order_laws()
     ensures back { OrdersReadBack }
     ensures only { OnlyOrdersRead }
@@ -9,7 +9,7 @@ pub fn order_laws()
     ensures cease { OrdersCease }
 {}
 
-// An answer's bytes are read as that answer, no other bytes are, and no two answers have the same.
+/// An answer's bytes are read as that answer, no other bytes are, and no two answers have the same.
 pub fn answer_laws()
     ensures back { AnswersReadBack }
     ensures only { OnlyAnswersRead }

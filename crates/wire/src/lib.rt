@@ -1,4 +1,4 @@
-// Orders and answers as bytes: what stands in them, how they are read and how they are written.
+//! Orders and answers as bytes: what stands in them, how they are read and how they are written.
 #![tactic(auto)]
 
 pub mod answer;

@@ -1,46 +1,97 @@
-// Orders: what is asked of a tuning, and its 17 bytes.
+//! Orders: what is asked of a tuning, and its 17 bytes.
 ghost use Rattle.std.specs.Prelude.{◌≡◌, length, slice_index};
+ghost use Rattle.std.specs.Option.{ok_or};
+ghost use Rattle.wire.specs.OrderKinds.{kind_of, kind_number};
 ghost use Rattle.wire.specs.Orders.{tuning_of, asked_of, kind, own, tuning_bytes, tuning_in, order_bytes, read_order, order_of, misfit, own_misfit};
 
-use super::bytes::{number, put_number};
+use super::bytes::{NoKind, Part};
 
-// How many bytes an order has.
+/// How many bytes an order has.
 pub const LENGTH: usize = 17;
 
-// A tuning as an order gives it, in range or not.
-#[derive(Clone, Copy)]
+/// A tuning as an order gives it, in range or not.
+#[derive(Clone, Copy, Debug, PartialEq, Eq)]
 pub struct RawTuning {
     pub octave: u32,
     pub interval: u32,
     pub notes: u32,
 }
 
-impl RawTuning {
-    // The tuning that 12 bytes are.
-    fn read(bytes: &[u8]) -> RawTuning
-        requires { length bytes.now ≡ 12 }
-        ensures { result ≡ tuning_in bytes.now }
-    {
+impl Part for RawTuning {
+    ghost size = { 12 };
+
+    ghost bytes_of = { tuning_bytes };
+
+    ghost value_of = { tuning_in };
+
+    fn read(bytes: &[u8]) -> RawTuning {
         RawTuning {
-            octave: number(&bytes[0..4]),
-            interval: number(&bytes[4..8]),
-            notes: number(&bytes[8..12]),
+            octave: u32::read(&bytes[0..4]),
+            interval: u32::read(&bytes[4..8]),
+            notes: u32::read(&bytes[8..12]),
         }
     }
 
-    // Writes the tuning's 12 bytes.
-    fn put(self, out: &mut [u8])
-        requires { length out.old ≡ 12 }
-        ensures { out.new ≡ tuning_bytes self }
-    {
-        put_number(&mut out[0..4], self.octave);
-        put_number(&mut out[4..8], self.interval);
-        put_number(&mut out[8..12], self.notes);
+    fn put(self, out: &mut [u8]) {
+        self.octave.put(&mut out[0..4]);
+        self.interval.put(&mut out[4..8]);
+        self.notes.put(&mut out[8..12]);
     }
 }
 
-// What is asked of a tuning: T is what is known of it.
-#[derive(Clone, Copy)]
+/// The kind of an order, by the number that is its first byte.
+#[derive(Clone, Copy, Debug, PartialEq, Eq)]
+enum Kind {
+    Place = 0,
+    Next = 1,
+    At = 2,
+    Sizes = 3,
+    Whole = 4,
+}
+
+impl TryFrom<u8> for Kind {
+    type Error = NoKind;
+
+    ghost try_from_gives = { λ byte result. result ≡ ok_or (kind_of byte) (record {}) };
+
+    fn try_from(byte: u8) -> Result<Kind, NoKind> {
+        match byte {
+            0 => Ok(Kind::Place),
+            1 => Ok(Kind::Next),
+            2 => Ok(Kind::At),
+            3 => Ok(Kind::Sizes),
+            4 => Ok(Kind::Whole),
+            _ => Err(NoKind),
+        }
+    }
+}
+
+impl From<Kind> for u8 {
+    ghost from_gives = { λ kind byte. byte ≡ kind_number kind };
+
+    fn from(kind: Kind) -> u8 {
+        kind as u8
+    }
+}
+
+impl Kind {
+    /// The order of this kind, if there is one: the own number of sizes is 0.
+    fn order(self, tuning: RawTuning, own: u32) -> Option<Order<RawTuning>>
+        ensures { result ≡ order_of (kind_number self) tuning own }
+    {
+        match self {
+            Kind::Place => Some(Order::Place { tuning, note: own }),
+            Kind::Next => Some(Order::Next { tuning, note: own }),
+            Kind::At => Some(Order::At { tuning, place: own }),
+            Kind::Sizes if own == 0 => Some(Order::Sizes { tuning }),
+            Kind::Sizes => None,
+            Kind::Whole => Some(Order::Whole { tuning, from: own }),
+        }
+    }
+}
+
+/// What is asked of a tuning: T is what is known of it.
+#[derive(Clone, Copy, Debug, PartialEq, Eq)]
 pub enum Order<T> {
     Place { tuning: T, note: u32 },
     Next { tuning: T, note: u32 },
@@ -50,7 +101,7 @@ pub enum Order<T> {
 }
 
 impl<T: Copy> Order<T> {
-    // What is known of the tuning.
+    /// What is known of the tuning.
     pub fn tuning(self) -> T
         ensures { result ≡ tuning_of self }
     {
@@ -63,20 +114,19 @@ impl<T: Copy> Order<T> {
         }
     }
 
-    // The order's kind, its first byte.
-    fn kind(self) -> u8
-        ensures { result ≡ kind self }
+    fn kind(self) -> Kind
+        ensures { kind_number result ≡ kind self }
     {
         match self {
-            Order::Place { .. } => 0,
-            Order::Next { .. } => 1,
-            Order::At { .. } => 2,
-            Order::Sizes { .. } => 3,
-            Order::Whole { .. } => 4,
+            Order::Place { .. } => Kind::Place,
+            Order::Next { .. } => Kind::Next,
+            Order::At { .. } => Kind::At,
+            Order::Sizes { .. } => Kind::Sizes,
+            Order::Whole { .. } => Kind::Whole,
         }
     }
 
-    // The order's own number, 0 for sizes.
+    /// The order's own number, 0 for sizes.
     fn own(self) -> u32
         ensures { result ≡ own self }
     {
@@ -89,7 +139,7 @@ impl<T: Copy> Order<T> {
         }
     }
 
-    // The same question of another tuning.
+    /// The same question of another tuning.
     pub fn asked_of<U: Copy>(self, tuning: U) -> Order<U>
         ensures { result ≡ asked_of self tuning }
     {
@@ -103,22 +153,8 @@ impl<T: Copy> Order<T> {
     }
 }
 
-// The order of a kind, if there is one.
-fn order_of(kind: u8, tuning: RawTuning, own: u32) -> Option<Order<RawTuning>>
-    ensures { result ≡ order_of kind tuning own }
-{
-    match kind {
-        0 => Some(Order::Place { tuning, note: own }),
-        1 => Some(Order::Next { tuning, note: own }),
-        2 => Some(Order::At { tuning, place: own }),
-        3 if own == 0 => Some(Order::Sizes { tuning }),
-        4 => Some(Order::Whole { tuning, from: own }),
-        _ => None,
-    }
-}
-
 impl Order<RawTuning> {
-    // The order's bytes.
+    /// The order's bytes.
     pub fn to_bytes(self) -> [u8; LENGTH]
         ensures { result ≡ order_bytes self }
     {
@@ -127,41 +163,41 @@ impl Order<RawTuning> {
         bytes
     }
 
-    // Writes the order's 17 bytes.
+    /// Writes the order's 17 bytes.
     fn put(self, out: &mut [u8])
         requires { length out.old ≡ 17 }
         ensures { out.new ≡ order_bytes self }
     {
-        out[0] = self.kind();
+        out[0] = u8::from(self.kind());
         self.tuning().put(&mut out[1..13]);
-        put_number(&mut out[13..17], self.own());
+        self.own().put(&mut out[13..17]);
     }
 
-    // The order that the bytes are, if they are one.
+    /// The order that the bytes are, if they are one.
     pub fn read(bytes: &[u8]) -> Option<Order<RawTuning>>
         ensures { result ≡ read_order bytes.now }
     {
         if bytes.len() != LENGTH {
             return None;
         }
-        let tuning = RawTuning::read(&bytes[1..13]);
-        order_of(bytes[0], tuning, number(&bytes[13..17]))
+        let kind = Kind::try_from(bytes[0]).ok()?;
+        kind.order(RawTuning::read(&bytes[1..13]), u32::read(&bytes[13..17]))
     }
 
-    // The place of the first byte that doesn't fit; the length if the bytes are an order.
+    /// The place of the first byte that doesn't fit; the length if the bytes are an order.
     pub fn misfit(bytes: &[u8]) -> u32
         ensures { result ≡ misfit bytes.now }
     {
         let length = bytes.len().min(LENGTH) as u32;
-        match byte_at(bytes, 0) {
-            5..=255 => 0,
-            3 => length.min(own_misfit(bytes)),
-            _ => length,
+        match Kind::try_from(byte_at(bytes, 0)) {
+            Err(NoKind) => 0,
+            Ok(Kind::Sizes) => length.min(own_misfit(bytes)),
+            Ok(_) => length,
         }
     }
 }
 
-// The first place of an own number that isn't 0, or the place past it.
+// The first place of an own number that isn't 0, or the place past it. Each pass of a loop would be a round of the order's, so there is none.
 fn own_misfit(bytes: &[u8]) -> u32
     ensures { result ≡ own_misfit bytes.now }
 {
@@ -182,5 +218,5 @@ fn own_misfit(bytes: &[u8]) -> u32
 fn byte_at(bytes: &[u8], place: usize) -> u8
     ensures { result ≡ slice_index bytes.now place }
 {
-    if place < bytes.len() { bytes[place] } else { 0 }
+    bytes.get(place).copied().unwrap_or(0)
 }

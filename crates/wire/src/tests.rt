@@ -1,4 +1,4 @@
-// Examples of bytes, worked out by hand.
+//! Examples of bytes, worked out by hand.
 use super::answer::{Answer, Pair, Pairs, Refusal};
 use super::order::{Order, RawTuning};
 use std::test::Fail;
