@@ -1,4 +1,4 @@
-// The line that is printed for an order.
+//! The line that is printed for an order.
 ghost use Rattle.std.specs.Prelude.{◌≡◌, Some};
 ghost use Rattle.answers.specs.Reply.{reply, said};
 ghost use Rattle.desk.specs.Lines.{line_text};
@@ -9,16 +9,16 @@ use std::fmt;
 use wire::answer::Refused;
 use wire::order::Order;
 
-#[derive(Drop)]
-pub struct Line(Result<Order<Tuning>, Refused>);
+/// The line for a reply.
+#[derive(Debug, Drop)]
+pub struct Line(pub Result<Order<Tuning>, Refused>);
 
 impl Line {
-    // The line of the order that these bytes are.
+    /// The line of the order that these bytes are.
     pub fn of(bytes: &[u8]) -> Line
-        ensures { said result.0 ≡ reply bytes.now 64 }
+        ensures { said result.0 ≡ reply bytes.now ROOM }
     {
-        let mut room = [0; ROOM];
-        Line(answer(bytes, &mut room))
+        Line(answer(bytes, &mut [0; ROOM]))
     }
 }
 
@@ -27,10 +27,9 @@ impl fmt::Display for Line {
 
     fn fmt<W: fmt::Write>(&self, f: &mut fmt::Formatter<W>) -> fmt::Result {
         match &self.0 {
-            Ok(_) => f.write_str("pending"),
-            Err(refused) => {
-                let number = u32::from(refused.refusal);
-                let place = refused.place;
+            Ok(_) => write!(f, "pending"),
+            Err(Refused { refusal, place }) => {
+                let number = u32::from(*refusal);
                 write!(f, "refused {number} at {place}")
             }
         }
