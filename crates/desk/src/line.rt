@@ -16,7 +16,7 @@ pub struct Line(pub Result<Order<Tuning>, Refused>);
 impl Line {
     /// The line of the order that these bytes are.
     pub fn of(bytes: &[u8]) -> Line
-        ensures { said result.0 ≡ reply bytes.now ROOM }
+        ensures { said result.0 ≡ reply bytes.now 64 }
     {
         Line(answer(bytes, &mut [0; ROOM]))
     }

@@ -57,6 +57,7 @@ fn answer_all(rt: &(impl Print + AllocGlobal), input: impl Read + Drop) -> Resul
     let mut input = BufReader::new(rt.alloc(), input).map_err(|_| AllocError)?;
     let mut out = BufWriter::new(rt.alloc(), io::writer(rt)).map_err(|_| AllocError)?;
     let mut unanswered = Vec::new(rt.alloc());
+    // The library's bound for an input that may never end.
     for _ in 0..u64::MAX {
         let arrived = input.fill_buf().map_err(Failure::Read)?;
         if arrived.is_empty() {

@@ -1,4 +1,4 @@
-// Products and remainders of small numbers and of the largest.
+//! Products and remainders of small numbers and of the largest.
 use super::*;
 use std::test::Fail;
 
@@ -20,13 +20,13 @@ fn quotients_that_fit_and_that_do_not(rt: HostRuntime) -> Result<(), Fail> {
         return Err(Fail::new("2 is not 0"));
     };
     // 599,479 times 14,329 is 2^33 - 1
-    let Some(half) = divide_product(599_479, 14_329, two) else {
-        return Err(Fail::new("it fits"));
+    let half = Division {
+        quotient: u32::MAX,
+        remainder: 1,
     };
-    assert_eq!(rt; half.quotient, u32::MAX);
-    assert_eq!(rt; half.remainder, 1);
-    assert!(rt; divide_product_up(599_479, 14_329, two).is_none());
-    assert!(rt; divide_product(65_536, 65_536, NonZeroU32::MIN).is_none());
+    assert_eq!(rt; divide_product(599_479, 14_329, two), Some(half));
+    assert_eq!(rt; divide_product_up(599_479, 14_329, two), None);
+    assert_eq!(rt; divide_product(65_536, 65_536, NonZeroU32::MIN), None);
     assert_eq!(rt;
         divide_product_up(u32::MAX, u32::MAX, NonZeroU32::MAX),
         Some(u32::MAX)

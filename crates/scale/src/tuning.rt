@@ -5,6 +5,7 @@ ghost use Rattle.std.specs.Prelude.{◌≡◌, ◌<◌, ◌≤◌, ◌&&◌, if�
 const LARGEST_OCTAVE: u32 = 1_000_000_000;
 
 /// An octave of so many units, an interval of so many, and how many notes.
+// It has no model, which would hide from callers what holds of each tuning.
 #[derive(Clone, Copy, Debug, PartialEq, Eq)]
 pub struct Tuning {
     pub octave: u32,
@@ -32,6 +33,7 @@ impl RangeError {
     ghost use Rattle.scale.specs.Range.{place_of};
 
     /// The place of the number among the three.
+    // Not `From`: `u32::from` would not say that it is a place.
     pub fn place(self) -> u32
         ensures { result ≡ place_of self }
     {
@@ -43,6 +45,7 @@ impl Tuning {
     ghost use Rattle.scale.specs.Range.{new_said, tuning_from};
 
     /// The tuning of these numbers, or which of them is the first out of range.
+    // The struct that has them unchecked belongs to a crate that this one doesn't see.
     pub fn new(octave: u32, interval: u32, notes: u32) -> Result<Tuning, RangeError>
         ensures { new_said result ≡ tuning_from octave interval notes }
     {

@@ -99,6 +99,7 @@ impl Part for Pair {
 }
 
 /// Up to three pairs.
+// Not an `ArrayVec`, which isn't `Copy`; and filling one would be a loop, whose passes are rounds of an order.
 #[derive(Clone, Copy, Debug, PartialEq, Eq)]
 pub enum Pairs {
     Zero,
@@ -228,6 +229,7 @@ impl Answer {
     }
 
     /// The answer that the bytes are, if they are one.
+    // Not `TryFrom`, as for orders: of bytes that are no answer there is nothing to tell.
     pub fn read(bytes: &[u8]) -> Option<Answer>
         ensures { result ≡ read_answer bytes.now }
     {

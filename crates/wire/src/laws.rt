@@ -1,4 +1,5 @@
 //! What holds of every order and every answer. These functions do nothing: their contracts are the theorems.
+// They are not laws of a trait: what a trait takes stands in specs/, and so would these proofs, among the definitions.
 ghost use Rattle.wire.specs.Laws.{OrdersReadBack, OnlyOrdersRead, OrdersApart, OrdersCease, AnswersReadBack, OnlyAnswersRead, AnswersApart};
 
 /// An order's bytes are read as that order, no other bytes are, no two orders have the same, and what is no order ceases to be one at its misfit.

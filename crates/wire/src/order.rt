@@ -155,6 +155,7 @@ impl<T: Copy> Order<T> {
 
 impl Order<RawTuning> {
     /// The order's bytes.
+    // Named as the library's `to_le_bytes`.
     pub fn to_bytes(self) -> [u8; LENGTH]
         ensures { result ≡ order_bytes self }
     {
@@ -174,6 +175,7 @@ impl Order<RawTuning> {
     }
 
     /// The order that the bytes are, if they are one.
+    // Not `TryFrom`: a check takes the order by `let .. else`, and asks for the misfit only where there is none.
     pub fn read(bytes: &[u8]) -> Option<Order<RawTuning>>
         ensures { result ≡ read_order bytes.now }
     {
