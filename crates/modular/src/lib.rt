@@ -43,6 +43,7 @@ pub fn divide_product(a: u32, b: u32, by: NonZeroU32) -> Option<Division>
 
 /// a times b divided by a third number, rounded up; nothing if that is 2^32 or more. For w octaves of N units and the interval g: the number of the first
 /// note that is w octaves up or more.
+#[tactic(auto, using(crate::proofs::Ceilings::ceiling_is))]
 pub fn divide_product_up(a: u32, b: u32, by: NonZeroU32) -> Option<u32>
     ensures { result ≡ product_divided_up a b (non_zero_u32_get by) }
 {

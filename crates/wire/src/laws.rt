@@ -3,6 +3,7 @@
 ghost use Rattle.wire.specs.Laws.{OrdersReadBack, OnlyOrdersRead, OrdersApart, OrdersCease, AnswersReadBack, OnlyAnswersRead, AnswersApart};
 
 /// An order's bytes are read as that order, no other bytes are, no two orders have the same, and what is no order ceases to be one at its misfit.
+#[tactic(auto, using(crate::proofs::OrderLaws::orders_read_back, crate::proofs::OrderLaws::only_orders_read, crate::proofs::OrderLaws::orders_apart, crate::proofs::Misfits::orders_cease))]
 pub fn order_laws()
     ensures back { OrdersReadBack }
     ensures only { OnlyOrdersRead }
@@ -11,6 +12,7 @@ pub fn order_laws()
 {}
 
 /// An answer's bytes are read as that answer, no other bytes are, and no two answers have the same.
+#[tactic(auto, using(crate::proofs::AnswerLaws::answers_read_back, crate::proofs::AnswerLaws::only_answers_read, crate::proofs::AnswerLaws::answers_apart))]
 pub fn answer_laws()
     ensures back { AnswersReadBack }
     ensures only { OnlyAnswersRead }
