@@ -1,7 +1,7 @@
 -- Of notes 1 to a + b - 1 none is less than u above note 0, and none less than d below it. So, of any two of the first a + b notes, it is at least u up
 -- to the one with the larger number, and at least d up to the other.
 use Rattle.std.proofs.Common.{◌≡◌, ℕ, suc, ◌+◌, ◌-◌, ◌*◌, ◌/◌, ◌%◌, ◌<◌, ◌≤◌, ◌≢◌, sym, ap, inl, inr, mul-le-mul_right, mod-lt, mul-le-mul_left, mul-pos, arith}
-use native.Mathlib.Nat.{eq_of_mul-eq-mul_right, mod-add-div'}
+use Rattle.std.proofs.Math.Nat.{eq_of_mul-eq-mul_right, mod-add-div'}
 use Rattle.std.proofs.lemmas.Bool.{cases_lt}
 use Rattle.scale.specs.Basis.{Basis}
 use Rattle.scale.specs.Laws.{NoNoteNearer}
@@ -39,18 +39,18 @@ module _ {N g : ℕ} (B : Basis N g) where
 
   pub a_intervals : a * g ≡ p * N + u
   unfolding p
-  a_intervals = omega (arith, mod-add-div' (a * g) N, B.above)
+  a_intervals = omega arith
 
   pub b_intervals : b * g + d ≡ q * N
   unfolding q
-  b_intervals = omega (arith, mod-add-div' (b * g) N, B.below)
+  b_intervals = omega arith
 
   pub octave_some : 0 < N
-  octave_some = omega (arith, B.fills, mul-pos B.some_a B.some_d)
+  octave_some = grind arith
 
   -- u and d together fit into the octave, and fill it for a = b = 1 alone
   pub fits : u + d ≤ N
-  fits = omega (arith, B.fills, mul-le-mul_right d B.some_a, mul-le-mul_right u B.some_b)
+  fits = grind arith
 
   pub fits_short : 2 < a + b → u + d < N
   fits_short more =

@@ -1,7 +1,7 @@
 -- A basis grows: the farther of its two notes is exchanged for one that is nearer by the other's distance, or by k times that at once. The row of
 -- bases that begins with note 1 on both sides reaches every number of notes, unless it ends at u = d: then note a + b is as high as note 0.
 use Rattle.std.proofs.Common.{◌≡◌, ℕ, zero, suc, ◌+◌, ◌-◌, ◌*◌, ◌%◌, ◌<◌, ◌≤◌, ◌≢◌, sym, refl, ap, ◌∙◌, inl, inr, arith}
-use native.Mathlib.Nat.{add-mul-mod_self_right}
+use Rattle.std.proofs.Math.Nat.{add-mul-mod_self_right}
 use Rattle.std.proofs.lemmas.Bool.{cases_lt, cases_order}
 use Rattle.scale.specs.Notes.{Tuning}
 use Rattle.scale.specs.Promise.{Taken, with_notes}
@@ -175,11 +175,7 @@ repeats_just_if t some small many = (
 
 -- if the interval is 0, note 1 is as high as note 0
 pub interval_needed : IntervalNeeded
-interval_needed t many differ =
-    elim (cases_lt 0 t.interval) [
-      | inl some ↦ some
-      | inr none ↦ absurd (differ 0 1 (omega arith) many (ap (λ (x : ℕ). x % t.octave) (omega arith)))
-    ]
+interval_needed = grind arith
 
 -- every tuning of two notes or more, all of them different, has a basis
 pub basis_of : (t : Tuning) → t.interval < t.octave → 1 < t.notes → AllDifferent t → BasisOf t

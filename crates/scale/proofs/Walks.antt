@@ -8,7 +8,7 @@ use Rattle.scale.specs.Basis.{BasisOf}
 use Rattle.scale.specs.Laws.{in_order}
 use Rattle.scale.proofs.Growth.{basis_exists}
 use Rattle.scale.proofs.Steps.{goes_above, goes_below}
-use Rattle.scale.proofs.Sizes.{sizes_listed, in_order_less, in_order_same, in_order_more}
+use Rattle.scale.proofs.Sizes.{sizes_listed}
 use Rattle.scale.proofs.Whole.{whole_as_sum}
 
 -- two spans are the same, or the one has a step of size d where the other has one of size u
@@ -89,26 +89,8 @@ abbrev TwoSizes : List ℕ → ℕ → ℕ → Type 0
 TwoSizes xs v w = (length xs ≤ 2) × ((v ≡ w) ⊎ ((v + (get_or xs 1 0 - get_or xs 0 0) ≡ w) ⊎ (w + (get_or xs 1 0 - get_or xs 0 0) ≡ v)))
 
 near_two : (u d v w : ℕ) → Near u d v w → TwoSizes (in_order u d false) v w
-near_two u d v w near =
-    elim (cases_order u d) [
-      | inl same ↦ rw (in_order_same u d false same) (omega arith, inl (omega arith))
-      | inr (inl less) ↦ rw (in_order_less u d false less) (
-        omega arith,
-        elim near [
-          | inl e ↦ inl e
-          | inr (inl e) ↦ inr (inl (omega arith))
-          | inr (inr e) ↦ inr (inr (omega arith))
-        ],
-      )
-      | inr (inr more) ↦ rw (in_order_more u d false more) (
-        omega arith,
-        elim near [
-          | inl e ↦ inl e
-          | inr (inl e) ↦ inr (inr (omega arith))
-          | inr (inr e) ↦ inr (inl (omega arith))
-        ],
-      )
-    ]
+unfolding in_order
+near_two u d v w near = grind arith
 
 pub spans : Spans
 unfolding Spans

@@ -1,9 +1,9 @@
 -- Ways up from one note to another: so many units, but for whole octaves.
 use Rattle.std.proofs.Common.{◌≡◌, ℕ, suc, ◌+◌, ◌-◌, ◌*◌, ◌/◌, ◌%◌, ◌<◌, ◌≤◌, sym, ap, ◌∙◌, inl, inr, mod-lt, mod-eq_of_lt, zero-mul, arith}
-use native.Mathlib.Nat.{zero-mod, mod-add-div', mod-add-mod, add-mod_right, add-mul-mod_self_right}
+use Rattle.std.proofs.Math.Nat.{zero-mod, mod-add-div', mod-add-mod, add-mod_right, add-mul-mod_self_right}
 use Rattle.std.proofs.lemmas.Bool.{cases_lt}
 use Rattle.scale.specs.Notes.{Tuning, note}
-use Rattle.scale.proofs.Octaves.{same_below}
+use Rattle.scale.proofs.Octaves.{remainder_is, same_below}
 
 -- w up from note k is note j, if c octaves are added to the one and e to the other
 pub record Way (N g k j w : ℕ) : Type 0 where
@@ -39,7 +39,7 @@ abbrev pub way : Tuning → ℕ → ℕ → ℕ
 way t k j = (note t j + t.octave - note t k) % t.octave
 
 pub note_zero : (t : Tuning) → note t 0 ≡ 0
-note_zero t = ap (λ (x : ℕ). x % t.octave) (zero-mul t.interval) ∙ zero-mod t.octave
+note_zero t = grind arith
 
 module _ (t : Tuning) (pos : 0 < t.octave) where
   pub note_low : (k : ℕ) → note t k < t.octave
@@ -50,21 +50,12 @@ module _ (t : Tuning) (pos : 0 < t.octave) where
 
   -- to a higher note it stays within the octave, and to a lower one it goes over the octave's end
   pub way_to_higher : (k j : ℕ) → note t k ≤ note t j → note t k + way t k j ≡ note t j
-  way_to_higher k j up = height_up t.octave (note t j) (note t k) (note_low j) up
-    where
-      height_up : (N x y : ℕ) → x < N → y ≤ x → y + (x + N - y) % N ≡ x
-      height_up N x y small up =
-          let e : x + N - y ≡ x - y + N = omega arith in
-          let f : (x + N - y) % N ≡ x - y = ap (λ (v : ℕ). v % N) e ∙ add-mod_right (x - y) N ∙ mod-eq_of_lt (omega arith) in
-          omega arith
+  way_to_higher k j up =
+      let low = note_low j in
+      omega (arith, remainder_is t.octave (note t j + t.octave - note t k) (note t j - note t k) 0 1 (omega arith) (omega arith))
 
   pub way_to_lower : (k j : ℕ) → note t j < note t k → note t k + way t k j ≡ note t j + t.octave
-  way_to_lower k j down = height_over t.octave (note t j) (note t k) (note_low k) down
-    where
-      height_over : (N x y : ℕ) → y < N → x < y → y + (x + N - y) % N ≡ x + N
-      height_over N x y small down =
-          let f : (x + N - y) % N ≡ x + N - y = mod-eq_of_lt (omega arith) in
-          omega arith
+  way_to_lower k j down = grind (arith, note_low k, mod-eq_of_lt)
 
   pub way_goes : (k j : ℕ) → WayIn t k j (way t k j)
   way_goes k j =
@@ -87,7 +78,6 @@ module _ (t : Tuning) (pos : 0 < t.octave) where
 
   pub way_lands : (k j w : ℕ) → WayIn t k j w → (note t k + w) % t.octave ≡ note t j
   way_lands k j w W =
-      mod-add-mod (k * t.interval) t.octave w
-      ∙ sym (add-mul-mod_self_right (k * t.interval + w) W.c t.octave)
-      ∙ ap (λ (x : ℕ). x % t.octave) W.is
-      ∙ add-mul-mod_self_right (j * t.interval) W.e t.octave
+      let k_round = add-mul-mod_self_right (k * t.interval + w) W.c t.octave in
+      let j_round = add-mul-mod_self_right (j * t.interval) W.e t.octave in
+      cc (mod-add-mod (k * t.interval) t.octave w)
