@@ -1,11 +1,7 @@
 -- How many of the first n notes are up to a height. Only the first two lemmas look into the definition.
 use Rattle.std.proofs.Common.{◌≡◌, ℕ, zero, suc, ◌+◌, ◌<◌, ◌≤◌, ◌≢◌, ◌⊎◌, refl, arith}
 use Rattle.scale.specs.Notes.{Tuning, note, up_to}
-
--- of two rows of numbers the second grows by as much as the first, from place m to place n, if it does from each place to the next
-pub grows_more : (f g : ℕ → ℕ) (m n : ℕ) → m ≤ n → ((i : ℕ) → m ≤ i → i < n → f (suc i) + g i ≤ g (suc i) + f i) → f n + g m ≤ g n + f m
-grows_more f g m zero up step = grind arith
-grows_more f g m (suc n) up step = grind (arith, grows_more f g m n)
+use Rattle.scale.proofs.Below.{grows_more}
 
 module _ (t : Tuning) where
   none_yet : (h : ℕ) → up_to t h 0 ≡ 0

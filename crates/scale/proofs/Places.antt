@@ -1,6 +1,6 @@
 -- Where notes stand: from one note to the next the place rises by one, and from the last place it goes to 0.
 use Rattle.std.proofs.Common.{◌≡◌, ℕ, zero, suc, ◌+◌, ◌-◌, ◌%◌, ◌<◌, ◌≤◌, ◌≢◌, ◌⊎◌, sym, ap, ◌∙◌, inl, inr, mod-eq_of_lt, arith}
-use native.Mathlib.Nat.{mod_self}
+use Rattle.std.proofs.Math.Nat.{mod_self}
 use Rattle.std.proofs.lemmas.Bool.{cases_lt, cases_order}
 use Rattle.scale.specs.Notes.{Tuning, note, up_to, place, next}
 use Rattle.scale.specs.Promise.{Taken}
@@ -26,11 +26,7 @@ module _ (t : Tuning) where
 module _ (t : Tuning) (pos : 0 < t.octave) (differ : AllDifferent t) where
   pub same_place : (j k : ℕ) → j < t.notes → k < t.notes → place t j ≡ place t k → j ≡ k
   same_place j k j_there k_there same =
-      elim (cases_order (note t j) (note t k)) [
-        | inl level ↦ same_note t differ j k j_there k_there level
-        | inr (inl lower) ↦ absurd (omega (arith, place_rises t j k j_there k_there lower))
-        | inr (inr higher) ↦ absurd (omega (arith, place_rises t k j k_there j_there higher))
-      ]
+      grind (arith, same_note t differ j k j_there k_there, place_rises t j k j_there k_there, place_rises t k j k_there j_there)
 
   -- a step that stays within the octave
   step_within : (k s j : ℕ) → k < t.notes → Goes t k s j → note t k + s < t.octave → place t j ≡ suc (place t k)
@@ -111,14 +107,7 @@ next_place t k T there =
     (omega (arith, G.next_is), omega (arith, G.next_is, G.there), ap (place t) e ∙ place_of_next t T.0 T.5 k s j there G)
 
 pub places_by_height : PlacesByHeight
-places_by_height t j k j_there k_there = (
-  λ less. elim (cases_order (note t j) (note t k)) [
-    | inl level ↦ absurd (omega (arith, ap (λ (h : ℕ). up_to t h t.notes) level))
-    | inr (inl lower) ↦ lower
-    | inr (inr higher) ↦ absurd (omega (arith, place_rises t k j k_there j_there higher))
-  ],
-  place_rises t j k j_there k_there,
-)
+places_by_height t j k j_there k_there = (λ less. grind (arith, place_rises t k j k_there j_there), place_rises t j k j_there k_there)
 
 pub places_differ : PlacesDiffer
 unfolding Taken

@@ -1,6 +1,6 @@
 -- The step from every note and the note after it, from the basis of a tuning.
 use Rattle.std.proofs.Common.{◌≡◌, ℕ, suc, ◌+◌, ◌-◌, ◌*◌, ◌%◌, ◌<◌, ◌≤◌, ◌⊎◌, sym, refl, ap, ◌∙◌, inl, inr, arith}
-use native.Mathlib.Nat.{add-mod_right, mod-mod}
+use Rattle.std.proofs.Math.Nat.{add-mod_right, mod-mod}
 use Rattle.std.proofs.lemmas.Bool.{cases_lt, cases_order}
 use Rattle.scale.specs.Notes.{Tuning, note, step, next, before}
 use Rattle.scale.specs.Promise.{Taken, ByRules}

@@ -1,6 +1,6 @@
 -- After m steps from note k of a whole scale one stands at note k + m a - c n, and c of the steps are d. From two notes c differs by one at most, so
 -- that the two spans are equal or differ by as much as u and d.
-use Rattle.std.proofs.Common.{◌≡◌, ℕ, zero, suc, ◌+◌, ◌-◌, ◌*◌, ◌<◌, ◌≤◌, false, ◌⊎◌, List, length, get_or, ap, ◌∙◌, inl, inr, lt_of_mul-lt-mul_right, arith}
+use Rattle.std.proofs.Common.{◌≡◌, ℕ, zero, suc, ◌+◌, ◌-◌, ◌*◌, ◌<◌, ◌≤◌, false, ◌⊎◌, List, length, slice_index, ap, ◌∙◌, inl, inr, lt_of_mul-lt-mul_right, arith}
 use Rattle.std.proofs.lemmas.Bool.{cases_lt, cases_order, le-ltb}
 use Rattle.scale.specs.Notes.{Tuning, next, sizes}
 use Rattle.scale.specs.Promise.{span, Spans}
@@ -72,21 +72,21 @@ module _ {t : Tuning} (B : BasisOf t) where
         let W = walk m k k_there in
         elim (cases_order V.c W.c) [
           | inl same ↦
-              let x : V.x ≡ W.x = omega (arith, V.all, W.all) in
-              inl (omega (arith, V.sum, W.sum, ap (λ (v : ℕ). v * d) same, ap (λ (v : ℕ). v * u) x))
+              let x : V.x ≡ W.x = omega arith in
+              inl (omega (arith, ap (λ v. v * d) same, ap (λ v. v * u) x))
           | inr (inl fewer) ↦
               let c : V.c + 1 ≡ W.c = omega (arith, one_more_at_most m k j W V k_there) in
-              let x : V.x ≡ W.x + 1 = omega (arith, V.all, W.all) in
-              inr (inl (omega (arith, V.sum, W.sum, ap (λ (v : ℕ). v * d) c, ap (λ (v : ℕ). v * u) x)))
+              let x : V.x ≡ W.x + 1 = omega arith in
+              inr (inl (omega (arith, ap (λ v. v * d) c, ap (λ v. v * u) x)))
           | inr (inr more) ↦
               let c : V.c ≡ W.c + 1 = omega (arith, one_more_at_most m j k V W j_there) in
-              let x : V.x + 1 ≡ W.x = omega (arith, V.all, W.all) in
-              inr (inr (omega (arith, V.sum, W.sum, ap (λ (v : ℕ). v * d) c, ap (λ (v : ℕ). v * u) x)))
+              let x : V.x + 1 ≡ W.x = omega arith in
+              inr (inr (omega (arith, ap (λ v. v * d) c, ap (λ v. v * u) x)))
         ]
 
 -- two sizes at most, and two spans that are the same or differ by as much as the sizes
 abbrev TwoSizes : List ℕ → ℕ → ℕ → Type 0
-TwoSizes xs v w = (length xs ≤ 2) × ((v ≡ w) ⊎ ((v + (get_or xs 1 0 - get_or xs 0 0) ≡ w) ⊎ (w + (get_or xs 1 0 - get_or xs 0 0) ≡ v)))
+TwoSizes xs v w = (length xs ≤ 2) × ((v ≡ w) ⊎ ((v + (slice_index xs 1 - slice_index xs 0) ≡ w) ⊎ (w + (slice_index xs 1 - slice_index xs 0) ≡ v)))
 
 near_two : (u d v w : ℕ) → Near u d v w → TwoSizes (in_order u d false) v w
 unfolding in_order
