@@ -21,7 +21,7 @@ nearest N a b u d i h x m k pos fills ex some apart first =
           omega (arith, eq_of_mul-eq-mul_right N pos h (u * x + z.0 * d) e, mul-le-mul_left u some)
       | inl many ↦
           let y = octaves_above N (i * u) (a * h) m k pos apart (omega arith) in
-          let more : 0 < y.0 = some_octaves N y.0 (i * u - a * h) (omega arith) (omega (arith, y.1)) in
+          let more : 0 < y.0 = some_octaves N y.0 (i * u - a * h) (omega arith) (omega arith) in
           let i_fills = ap (λ (v : ℕ). i * v) fills in
           let e : i * N ≡ (a * x + b * y.0) * N = omega (arith, ap (λ (v : ℕ). v * b) y.1, ap (λ (v : ℕ). v * a) ex) in
           omega (arith, eq_of_mul-eq-mul_right N pos i (a * x + b * y.0) e, mul-le-mul_left a some, mul-le-mul_left b more)
@@ -55,10 +55,10 @@ module _ {N g : ℕ} (B : Basis N g) where
   pub fits_short : 2 < a + b → u + d < N
   fits_short more =
       elim (cases_lt 1 a) [
-        | inl two ↦ omega (arith, B, mul-le-mul_right d two, mul-le-mul_right u B.some_b)
+        | inl two ↦ omega (arith, mul-le-mul_right d two, mul-le-mul_right u B.some_b)
         | inr one ↦
             let two : 2 ≤ b = omega arith in
-            omega (arith, B, mul-le-mul_right d B.some_a, mul-le-mul_right u two)
+            omega (arith, mul-le-mul_right d B.some_a, mul-le-mul_right u two)
       ]
 
   -- the ways that it gives from every note
@@ -79,8 +79,8 @@ module _ {N g : ℕ} (B : Basis N g) where
       let a_up = ap (λ (v : ℕ). i * v) a_intervals in
       let b_down = ap (λ (v : ℕ). i * v) b_intervals in
       let x = octaves_above N (i * d + h * b) 0 (b * W.c) (i * q + b * W.e) octave_some (omega arith) (omega arith) in
-      let more = some_octaves N x.0 (i * d + h * b) (omega (arith, mul-pos some B.some_d)) (omega (arith, x.1)) in
-      nearest N a b u d i h x.0 (i * p + a * W.e) (a * W.c) octave_some B.fills (omega (arith, x.1)) more (omega arith) first
+      let more = some_octaves N x.0 (i * d + h * b) (omega (arith, mul-pos some B.some_d)) (omega arith) in
+      nearest N a b u d i h x.0 (i * p + a * W.e) (a * W.c) octave_some B.fills (omega arith) more (omega arith) first
 
   gap_below : (i h : ℕ) → 0 < i → i < a + b → Way N g i 0 h → d ≤ h
   gap_below i h some first W =
@@ -88,10 +88,10 @@ module _ {N g : ℕ} (B : Basis N g) where
       let down = ap (λ (v : ℕ). b * v) W.is in
       let a_up = ap (λ (v : ℕ). i * v) a_intervals in
       let b_down = ap (λ (v : ℕ). i * v) b_intervals in
-      let fills : b * u + a * d ≡ N = omega (arith, B.fills) in
+      let fills : b * u + a * d ≡ N = omega arith in
       let x = octaves_above N (i * u + h * a) 0 (i * p + a * W.c) (a * W.e) octave_some (omega arith) (omega arith) in
-      let more = some_octaves N x.0 (i * u + h * a) (omega (arith, mul-pos some B.some_u)) (omega (arith, x.1)) in
-      nearest N b a d u i h x.0 (b * W.e) (i * q + b * W.c) octave_some fills (omega (arith, x.1)) more (omega arith) (omega arith)
+      let more = some_octaves N x.0 (i * u + h * a) (omega (arith, mul-pos some B.some_u)) (omega arith) in
+      nearest N b a d u i h x.0 (b * W.e) (i * q + b * W.c) octave_some fills (omega arith) more (omega arith) (omega arith)
 
   -- so it is at least u up to a note with a larger number, if that is larger by less than a + b, and at least d up to one with a smaller number
   pub far_later : {k j w : ℕ} → Way N g k j w → k < j → j < k + (a + b) → u ≤ w
@@ -106,7 +106,7 @@ module _ {N g : ℕ} (B : Basis N g) where
       let from = mod-add-div' (i * g) N in
       let to = mod-add-div' (j * g) N in
       let W : Way N g i j 0 = record { c = j * g / N; e = i * g / N; is = omega arith } in
-      omega (arith, B.some_u, far_later W less (omega arith))
+      omega (arith, far_later W less (omega arith))
 
 pub no_note_nearer : NoNoteNearer
 no_note_nearer N g B j some first =

@@ -20,7 +20,7 @@ module _ (t : Tuning) where
 
   pub all_counted : (h n : ℕ) → ((i : ℕ) → i < n → note t i ≤ h) → up_to t h n ≡ n
   all_counted h n all =
-      let more = grows_more (λ i. i) (up_to t h) 0 n (omega arith) (λ i from there. omega (arith, counted h i, all i there)) in
+      let more = grows_more (λ i. i) (up_to t h) 0 n (omega arith) (λ i from there. omega (arith, counted h i)) in
       omega (arith, at_most h n)
 
   -- some note counts if one is that low
@@ -32,8 +32,8 @@ module _ (t : Tuning) where
   -- it alone, if all others are higher
   pub one_counted : (h j n : ℕ) → j < n → note t j ≤ h → ((i : ℕ) → i < n → i ≢ j → h < note t i) → up_to t h n ≡ 1
   one_counted h j n there low others =
-      let before = grows_more (up_to t h) (λ i. 0) 0 j (omega arith) (λ i from l. omega (arith, counted h i, others i (omega arith) (omega arith))) in
-      let after = grows_more (up_to t h) (λ i. 0) (suc j) n there (λ i from l. omega (arith, counted h i, others i l (omega arith))) in
+      let before = grows_more (up_to t h) (λ i. 0) 0 j (omega arith) (λ i from l. omega (arith, counted h i)) in
+      let after = grows_more (up_to t h) (λ i. 0) (suc j) n there (λ i from l. omega (arith, counted h i)) in
       omega (arith, none_yet h, counted h j, counts_itself h j n there low)
 
   -- up to a larger height there are more, if a note lies between
@@ -41,12 +41,12 @@ module _ (t : Tuning) where
   rises_over h x j n there above upto =
       let before = grows_more (up_to t h) (up_to t x) 0 j (omega arith) (λ i from l. omega (arith, counted h i, counted x i)) in
       let after = grows_more (up_to t h) (up_to t x) (suc j) n there (λ i from l. omega (arith, counted h i, counted x i)) in
-      omega (arith, none_yet h, none_yet x, counted h j, counted x j)
+      omega (arith, none_yet h, counted h j, counted x j)
 
   -- one more, if note j does and no other
   pub rises_by_one : (h x j n : ℕ) → j < n → h < note t j → note t j ≤ x → ((i : ℕ) → i < n → i ≢ j → (note t i ≤ h) ⊎ (x < note t i)) →
       up_to t x n ≡ suc (up_to t h n)
   rises_by_one h x j n there above upto others =
-      let before = grows_more (up_to t x) (up_to t h) 0 j (omega arith) (λ i from l. omega (arith, counted h i, counted x i, others i (omega arith) (omega arith))) in
-      let after = grows_more (up_to t x) (up_to t h) (suc j) n there (λ i from l. omega (arith, counted h i, counted x i, others i l (omega arith))) in
-      omega (arith, none_yet h, none_yet x, counted h j, counted x j, rises_over h x j n there above upto)
+      let before = grows_more (up_to t x) (up_to t h) 0 j (omega arith) (λ i from l. omega (arith, counted h i, counted x i)) in
+      let after = grows_more (up_to t x) (up_to t h) (suc j) n there (λ i from l. omega (arith, counted h i, counted x i)) in
+      omega (arith, none_yet x, counted h j, counted x j, rises_over h x j n there above upto)

@@ -41,10 +41,10 @@ module _ {N g : ℕ} (B : Basis N g) (k v : ℕ) where
         b = b;
         u = v;
         d = d;
-        above = remainder_is N ((a + k * b) * g) v 0 (p B + k * q B) (omega (arith, fits B, B.some_d)) apart;
+        above = remainder_is N ((a + k * b) * g) v 0 (p B + k * q B) (omega arith) apart;
         below = B.below;
-        fills = omega (arith, B.fills, ap (λ (x : ℕ). b * x) left);
-        some_a = omega (arith, B.some_a);
+        fills = omega (arith, ap (λ (x : ℕ). b * x) left);
+        some_a = omega arith;
         some_b = B.some_b;
         some_u = some;
         some_d = B.some_d;
@@ -54,18 +54,18 @@ module _ {N g : ℕ} (B : Basis N g) (k v : ℕ) where
   abbrev pub nearer_below : k * u + v ≡ d → 0 < v → Basis N g
   nearer_below left some =
       let k_times = ap (λ (x : ℕ). k * x) (a_intervals B) in
-      let apart : (b + k * a) * g + 1 * N ≡ N - v + (q B + k * p B) * N = omega (arith, b_intervals B, fits B) in
-      let height = remainder_is N ((b + k * a) * g) (N - v) 1 (q B + k * p B) (omega (arith, octave_some B)) apart in
+      let apart : (b + k * a) * g + 1 * N ≡ N - v + (q B + k * p B) * N = omega (arith, b_intervals B) in
+      let height = remainder_is N ((b + k * a) * g) (N - v) 1 (q B + k * p B) (omega arith) apart in
       record {
         a = a;
         b = b + k * a;
         u = u;
         d = v;
         above = B.above;
-        below = omega (arith, height, fits B);
-        fills = omega (arith, B.fills, ap (λ (x : ℕ). a * x) left);
+        below = omega arith;
+        fills = omega (arith, ap (λ (x : ℕ). a * x) left);
         some_a = B.some_a;
-        some_b = omega (arith, B.some_b);
+        some_b = omega arith;
         some_u = B.some_u;
         some_d = some;
       }
@@ -89,7 +89,7 @@ module _ {N g : ℕ} (B : Basis N g) where
       ap (λ (x : ℕ). x % N) round ∙ add-mul-mod_self_right (k * g) (p B + q B) N
 
   pub not_all_different : u ≡ d → (n : ℕ) → a + b < n → ((j k : ℕ) → j < k → k < n → j * g % N ≢ k * g % N) → ⊥
-  not_all_different same n early differ = differ 0 (0 + (a + b)) (omega (arith, B.some_a)) (omega arith) (sym (note_again same 0))
+  not_all_different same n early differ = differ 0 (0 + (a + b)) (omega arith) (omega arith) (sym (note_again same 0))
 
 -- what one note more does to the basis of a tuning
 pub data Grows {t : Tuning} (B : BasisOf t) : Type 0 where
@@ -106,15 +106,15 @@ module _ {t : Tuning} (B : BasisOf t) where
       elim (cases_lt t.notes (a + b)) [
         | inl more ↦ stays more
         | inr all ↦ elim (cases_order u d) [
-          | inl same ↦ ends (omega (arith, B.reach)) same
-          | inr (inl less) ↦ nears_below (omega (arith, B.reach)) (d - u) (omega arith) (omega arith)
-          | inr (inr more) ↦ nears_above (omega (arith, B.reach)) (u - d) (omega arith) (omega arith)
+          | inl same ↦ ends (omega arith) same
+          | inr (inl less) ↦ nears_below (omega arith) (d - u) (omega arith) (omega arith)
+          | inr (inr more) ↦ nears_above (omega arith) (u - d) (omega arith) (omega arith)
         ]
       ]
 
   -- up to a + b notes the basis is the same
   abbrev pub basis_at : (m : ℕ) → t.notes ≤ m → m ≤ a + b → BasisOf (with_notes t m)
-  basis_at m from upto = record { basis = B.basis; a_there = omega (arith, B.a_there); b_there = omega (arith, B.b_there); reach = upto }
+  basis_at m from upto = record { basis = B.basis; a_there = omega arith; b_there = omega arith; reach = upto }
 
   -- for one note more it is the next of the row
   abbrev pub basis_above : t.notes ≡ a + b → (v : ℕ) → d + v ≡ u → 0 < v → BasisOf (with_notes t (suc t.notes))
@@ -122,17 +122,17 @@ module _ {t : Tuning} (B : BasisOf t) where
       record {
         basis = nearer_above B.basis 1 v (omega arith) some;
         a_there = omega arith;
-        b_there = omega (arith, B.b_there);
-        reach = omega (arith, B.basis.some_b);
+        b_there = omega arith;
+        reach = omega arith;
       }
 
   abbrev pub basis_below : t.notes ≡ a + b → (v : ℕ) → u + v ≡ d → 0 < v → BasisOf (with_notes t (suc t.notes))
   basis_below all v left some =
       record {
         basis = nearer_below B.basis 1 v (omega arith) some;
-        a_there = omega (arith, B.a_there);
+        a_there = omega arith;
         b_there = omega arith;
-        reach = omega (arith, B.basis.some_a);
+        reach = omega arith;
       }
 
 -- how the row ends for a tuning of two notes or more
@@ -161,7 +161,7 @@ module _ (t : Tuning) (some : 0 < t.interval) (small : t.interval < t.octave) wh
 
 -- the notes of a tuning that has a basis are all different
 pub different : {t : Tuning} → BasisOf t → AllDifferent t
-different B j k less there = first_different B.basis j k less (omega (arith, B.reach))
+different B j k less there = first_different B.basis j k less (omega arith)
 
 -- so the notes are not all different just if the row ends at u = d before it reaches them
 pub repeats_just_if : RepeatsJustIf
@@ -199,5 +199,5 @@ unfolding Taken
 one_or_more t T =
     elim (cases_lt 1 t.notes) [
       | inl many ↦ has_basis (basis_exists t T many)
-      | inr few ↦ one_note T.0 (omega (arith, T.3))
+      | inr few ↦ one_note T.0 (omega arith)
     ]

@@ -44,7 +44,7 @@ module _ {t : Tuning} (small : t.interval < t.octave) (B : BasisOf t) where
         basis = mirrored (t.octave - t.interval) (omega arith) B.basis;
         a_there = B.b_there;
         b_there = B.a_there;
-        reach = omega (arith, B.reach);
+        reach = omega arith;
       }
 
   sizes_down : sizes (down t) ≡ sizes t

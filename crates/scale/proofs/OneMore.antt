@@ -27,7 +27,7 @@ module _ {t : Tuning} (B : BasisOf t) where
       let was = steps_by_basis t B in
       let is = steps_by_basis (with_one_more t) C in
       let k : ℕ = t.notes - a in
-      (k, omega arith, grind (arith, was k (omega arith), is k (omega arith), is t.notes (omega arith)), λ j there other. grind (arith, was j there, is j (omega arith)))
+      (k, omega arith, grind arith, λ j there other. grind arith)
 
   -- u is cut into what is left of it and d
   cut_above : t.notes ≡ a + b → (v : ℕ) → d + v ≡ u → 0 < v → Cut t
@@ -35,7 +35,7 @@ module _ {t : Tuning} (B : BasisOf t) where
       let C : BasisOf (with_one_more t) = basis_above B all v left some in
       let was = steps_by_basis t B in
       let is = steps_by_basis (with_one_more t) C in
-      (0, omega arith, grind (arith, was 0 (omega arith), is 0 (omega arith), is t.notes (omega arith)), λ j there other. grind (arith, was j there, is j (omega arith)))
+      (0, omega arith, grind arith, λ j there other. grind arith)
 
   -- d is cut into u and what is left of it
   cut_below : t.notes ≡ a + b → (v : ℕ) → u + v ≡ d → 0 < v → Cut t
@@ -43,7 +43,7 @@ module _ {t : Tuning} (B : BasisOf t) where
       let C : BasisOf (with_one_more t) = basis_below B all v left some in
       let was = steps_by_basis t B in
       let is = steps_by_basis (with_one_more t) C in
-      (b, omega arith, grind (arith, was b (omega arith), is b (omega arith), is t.notes (omega arith)), λ j there other. grind (arith, was j there, is j (omega arith)))
+      (b, omega arith, grind arith, λ j there other. grind arith)
 
   cut : AllDifferent (with_one_more t) → Cut t
   cut differ =
@@ -58,7 +58,7 @@ module _ {t : Tuning} (B : BasisOf t) where
 cut_alone : (t : Tuning) → 0 < t.octave → t.notes ≡ 1 → BasisOf (with_one_more t) → Cut t
 cut_alone t pos one C =
     let is = steps_by_basis (with_one_more t) C in
-    (0, omega arith, grind (arith, is 0 (omega arith), is t.notes (omega arith), (alone t pos one).step_is), λ j there other. absurd (omega arith))
+    (0, omega arith, grind (arith, (alone t pos one).step_is), λ j there other. absurd (omega arith))
 
 pub one_more : OneMore
 unfolding OneMore Taken

@@ -16,24 +16,24 @@ module _ (t : Tuning) where
   place_counts k there = omega (arith, counts_itself t (note t k) k t.notes there (omega arith))
 
   pub place_there : (k : ℕ) → k < t.notes → place t k < t.notes
-  place_there k there = omega (arith, place_counts k there, at_most t (note t k) t.notes)
+  place_there k there = omega (arith, at_most t (note t k) t.notes)
 
   -- the higher note has the higher place
   pub place_rises : (j k : ℕ) → j < t.notes → k < t.notes → note t j < note t k → place t j < place t k
   place_rises j k j_there k_there less =
-      omega (arith, place_counts j j_there, place_counts k k_there, rises_over t (note t j) (note t k) k t.notes k_there less (omega arith))
+      omega (arith, place_counts j j_there, rises_over t (note t j) (note t k) k t.notes k_there less (omega arith))
 
 module _ (t : Tuning) (pos : 0 < t.octave) (differ : AllDifferent t) where
   pub same_place : (j k : ℕ) → j < t.notes → k < t.notes → place t j ≡ place t k → j ≡ k
   same_place j k j_there k_there same =
-      grind (arith, same_note t differ j k j_there k_there, place_rises t j k j_there k_there, place_rises t k j k_there j_there)
+      grind (arith, place_rises t j k j_there k_there, place_rises t k j k_there j_there)
 
   -- a step that stays within the octave
   step_within : (k s j : ℕ) → k < t.notes → Goes t k s j → note t k + s < t.octave → place t j ≡ suc (place t k)
   step_within k s j there G within =
-      let higher : note t k < note t j = omega (arith, lands, G.some) in
+      let higher : note t k < note t j = omega (arith, lands) in
       let one_more = rises_by_one t (note t k) (note t j) j t.notes G.there higher (omega arith) others in
-      omega (arith, place_counts t k there, place_counts t j G.there)
+      omega (arith, place_counts t k there)
     where
       lands : note t k + s ≡ note t j
       lands = sym (mod-eq_of_lt within) ∙ G.lands
@@ -44,7 +44,7 @@ module _ (t : Tuning) (pos : 0 < t.octave) (differ : AllDifferent t) where
             | inr low ↦ inl low
             | inl high ↦
                 let different : note t i ≢ note t j = λ e. other (same_note t differ i j i_there G.there e) in
-                inr (omega (arith, lands, G.least i i_there, way_to_higher t pos k i (omega arith)))
+                inr (omega (arith, way_to_higher t pos k i (omega arith)))
           ]
 
   pub place_zero : 0 < t.notes → place t 0 ≡ 0
@@ -53,25 +53,25 @@ module _ (t : Tuning) (pos : 0 < t.octave) (differ : AllDifferent t) where
       others : (i : ℕ) → i < t.notes → i ≢ 0 → note t 0 < note t i
       others i there other =
           let different : note t i ≢ note t 0 = λ e. other (same_note t differ i 0 there some e) in
-          omega (arith, note_zero t)
+          omega arith
 
   -- a step over the octave's end
   step_over : (k s j : ℕ) → k < t.notes → Goes t k s j → t.octave ≤ note t k + s → (suc (place t k) ≡ t.notes) × (j ≡ 0)
-  step_over k s j there G over = (omega (arith, place_counts t k there, all_counted t (note t k) t.notes none_higher), first)
+  step_over k s j there G over = (omega (arith, all_counted t (note t k) t.notes none_higher), first)
     where
       none_higher : (i : ℕ) → i < t.notes → note t i ≤ note t k
       none_higher i i_there =
           elim (cases_lt (note t k) (note t i)) [
             | inr low ↦ low
-            | inl high ↦ absurd (omega (arith, G.least i i_there, way_to_higher t pos k i (omega arith), note_low t pos i))
+            | inl high ↦ absurd (omega (arith, way_to_higher t pos k i (omega arith)))
           ]
 
       -- note 0 is no farther than the octave's end
       end : note t k + s ≡ t.octave
       end =
           elim (cases_lt 0 (note t k)) [
-            | inl high ↦ omega (arith, note_zero t, G.least 0 (omega arith), way_to_lower t pos k 0 (omega (arith, note_zero t)))
-            | inr none ↦ omega (arith, G.short)
+            | inl high ↦ omega (arith, way_to_lower t pos k 0 (omega arith))
+            | inr none ↦ omega arith
           ]
 
       first : j ≡ 0
@@ -103,8 +103,8 @@ pub next_place : NextPlace
 unfolding Taken
 next_place t k T there =
     let (s, j, G) = goes_on t T k there in
-    let e : next t k - 1 ≡ j = omega (arith, G.next_is) in
-    (omega (arith, G.next_is), omega (arith, G.next_is, G.there), ap (place t) e ∙ place_of_next t T.0 T.5 k s j there G)
+    let e : next t k - 1 ≡ j = omega arith in
+    (omega arith, omega arith, ap (place t) e ∙ place_of_next t T.0 T.5 k s j there G)
 
 pub places_by_height : PlacesByHeight
 places_by_height t j k j_there k_there = (λ less. grind (arith, place_rises t k j k_there j_there), place_rises t j k j_there k_there)

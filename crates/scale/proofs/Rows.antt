@@ -70,7 +70,7 @@ range_is N g n fits = grind arith
 module _ {t : Tuning} {row : List ℕ} (R : Row t row) where
   row_rises : (i j : ℕ) → i < j → j < t.notes → note t (at t row i) < note t (at t row j)
   row_rises i j less there =
-      let more = grows_more (λ x. x) (λ x. note t (at t row x)) i j (omega arith) (λ x from below. omega (arith, R.rises x (omega arith))) in
+      let more = grows_more (λ x. x) (λ x. note t (at t row x)) i j (omega arith) (λ x from below. omega arith) in
       omega arith
 
   row_differs : AllDifferent t
@@ -110,13 +110,13 @@ module _ {t : Tuning} {row : List ℕ} (R : Row t row) where
     row_first : at t row 0 ≡ 0
     row_first =
         let pos = octave_some B.basis in
-        let some : 0 < t.notes = omega (arith, B.a_there) in
+        let some : 0 < t.notes = omega arith in
         same_place t pos row_differs (at t row 0) 0 (R.there 0 some) some (row_places 0 some ∙ sym (place_zero t pos row_differs some))
 
     row_second : at t row 1 ≡ a
     row_second =
-        let one : 1 % t.notes ≡ 1 = mod-eq_of_lt (omega (arith, B.a_there, B.basis.some_a)) in
-        omega (arith, row_nexts 0 (omega (arith, B.a_there)), ap (next t) row_first, ap (at t row) one, next_zero B)
+        let one : 1 % t.notes ≡ 1 = mod-eq_of_lt (omega arith) in
+        omega (arith, row_nexts 0 (omega arith), ap (next t) row_first, ap (at t row) one, next_zero B)
 
     row_last : at t row (t.notes - 1) ≡ b
     row_last =
@@ -134,7 +134,7 @@ module _ {t : Tuning} {row : List ℕ} (R : Row t row) where
     row_up = ap (note t) row_second ∙ B.basis.above
 
     row_down : t.octave - note t (at t row (t.notes - 1)) ≡ d
-    row_down = omega (arith, ap (note t) row_last, B.basis.below)
+    row_down = omega (arith, ap (note t) row_last)
 
 -- the sizes and how many there are of each, told by the second note and the last
 module _ (t : Tuning) (row : List ℕ) where

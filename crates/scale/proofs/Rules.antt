@@ -15,12 +15,12 @@ module _ {t : Tuning} (B : BasisOf t) {k j w : ℕ} (k_there : k < t.notes) (j_t
   rule_above there =
       elim (cases_order j k) [
         | inl same ↦ inl (way_to_same W short (sym same))
-        | inr (inr later) ↦ inr (far_later B.basis W later (omega (arith, B.reach)))
+        | inr (inr later) ↦ inr (far_later B.basis W later (omega arith))
         | inr (inl earlier) ↦ elim (cases_lt w u) [
           | inr far ↦ inr far
           | inl less ↦
               let rest : WayIn t j (k + a) (u - w) = way_rest W (u - w) (omega arith) (way_above B.basis k) in
-              let far = far_later B.basis rest (omega arith) (omega (arith, B.reach)) in
+              let far = far_later B.basis rest (omega arith) (omega arith) in
               inl (omega arith)
         ]
       ]
@@ -29,12 +29,12 @@ module _ {t : Tuning} (B : BasisOf t) {k j w : ℕ} (k_there : k < t.notes) (j_t
   rule_below there =
       elim (cases_order j k) [
         | inl same ↦ inl (way_to_same W short (sym same))
-        | inr (inl earlier) ↦ inr (far_earlier B.basis W earlier (omega (arith, B.reach)))
+        | inr (inl earlier) ↦ inr (far_earlier B.basis W earlier (omega arith))
         | inr (inr later) ↦ elim (cases_lt w d) [
           | inr far ↦ inr far
           | inl less ↦
               let rest : WayIn t j (k - b) (d - w) = way_rest W (d - w) (omega arith) (way_below B.basis k (k - b) (omega arith)) in
-              let far = far_earlier B.basis rest (omega (arith, B.basis.some_b)) (omega (arith, B.reach)) in
+              let far = far_earlier B.basis rest (omega arith) (omega arith) in
               inl (omega arith)
         ]
       ]
@@ -44,13 +44,13 @@ module _ {t : Tuning} (B : BasisOf t) {k j w : ℕ} (k_there : k < t.notes) (j_t
       elim (cases_order j k) [
         | inl same ↦ inl (way_to_same W short (sym same))
         | inr (inl earlier) ↦
-            let d_far = far_earlier B.basis W earlier (omega (arith, B.reach)) in
+            let d_far = far_earlier B.basis W earlier (omega arith) in
             let rest : WayIn t k (j + b) (w - d) = way_first (way_below B.basis (j + b) j (omega arith)) (w - d) (omega arith) W in
-            let u_far = far_later B.basis rest (omega arith) (omega (arith, B.basis.some_a)) in
+            let u_far = far_later B.basis rest (omega arith) (omega arith) in
             inr (omega arith)
         | inr (inr later) ↦
-            let u_far = far_later B.basis W later (omega (arith, B.reach)) in
+            let u_far = far_later B.basis W later (omega arith) in
             let rest : WayIn t (k + a) j (w - u) = way_rest (way_above B.basis k) (w - u) (omega arith) W in
-            let d_far = far_earlier B.basis rest (omega arith) (omega (arith, B.basis.some_b)) in
+            let d_far = far_earlier B.basis rest (omega arith) (omega arith) in
             inr (omega arith)
       ]

@@ -54,21 +54,21 @@ module _ {t : Tuning} (B : BasisOf t) where
 
   pub goes_above : (k : ℕ) → k + a < t.notes → Goes t k u (k + a)
   goes_above k there =
-      let short : u < t.octave = omega (arith, fits B.basis, B.basis.some_d) in
+      let short : u < t.octave = omega arith in
       let W = way_above B.basis k in
       goes_by k u (k + a) B.basis.some_u short there W (λ i w i_there w_short W. rule_above B (omega arith) i_there w_short W there)
 
   pub goes_both : (k : ℕ) → t.notes ≤ k + a → k < b → Goes t k (u + d) (k + a - b)
   goes_both k far near =
-      let some : 0 < u + d = omega (arith, B.basis.some_u) in
-      let short : u + d < t.octave = fits_short B.basis (omega (arith, B.a_there, B.b_there)) in
-      let there : k + a - b < t.notes = omega (arith, B.a_there) in
-      let W = way_both B.basis k (k + a - b) (omega (arith, B.reach)) in
-      goes_by k (u + d) (k + a - b) some short there W (λ i w i_there w_short W. rule_both B (omega (arith, B.b_there)) i_there w_short W far near)
+      let some : 0 < u + d = omega arith in
+      let short : u + d < t.octave = fits_short B.basis (omega arith) in
+      let there : k + a - b < t.notes = omega arith in
+      let W = way_both B.basis k (k + a - b) (omega arith) in
+      goes_by k (u + d) (k + a - b) some short there W (λ i w i_there w_short W. rule_both B (omega arith) i_there w_short W far near)
 
   pub goes_below : (k : ℕ) → k < t.notes → b ≤ k → Goes t k d (k - b)
   goes_below k k_there far =
-      let short : d < t.octave = omega (arith, fits B.basis, B.basis.some_u) in
+      let short : d < t.octave = omega (arith, fits B.basis) in
       let W = way_below B.basis k (k - b) (omega arith) in
       goes_by k d (k - b) B.basis.some_d short (omega arith) W (λ i w i_there w_short W. rule_below B k_there i_there w_short W far)
 
@@ -116,7 +116,7 @@ goes_on t T k k_there =
     ]
 
 pub basis_told : BasisTold
-basis_told t B = grind (arith, next_zero B, before_is B, steps_by_basis t B 0 (omega arith), steps_by_basis t B B.basis.b B.b_there)
+basis_told t B = grind (arith, before_is B, steps_by_basis t B 0 (omega arith), steps_by_basis t B B.basis.b B.b_there)
 
 pub by_rules : ByRules
 unfolding ByRules

@@ -22,10 +22,10 @@ module _ {t : Tuning} (B : BasisOf t) where
   many_d = t.notes - b
 
   u_and_both : many_u + many_both ≡ b
-  u_and_both = omega (arith, B.reach, B.a_there)
+  u_and_both = omega arith
 
   both_and_d : many_both + many_d ≡ a
-  both_and_d = omega (arith, B.reach, B.b_there)
+  both_and_d = omega arith
 
 module _ {A : Type 0} where
   -- f done with each of the first m steps
@@ -57,7 +57,7 @@ module _ {A : Type 0} where
         let y : ℕ = many_d B in
         let first : x ≡ 0 + x = omega arith in
         let to_b = u_and_both B in
-        let all : t.notes ≡ x + w + y = omega (arith, B.b_there) in
+        let all : t.notes ≡ x + w + y = omega arith in
         let ups = stretch f z t u 0 x (λ k from below. (goes_above B k (omega arith)).step_is) in
         let boths = stretch f z t (u + d) x w (λ k from below. (goes_both B k (omega arith) (omega arith)).step_is) in
         let downs = stretch f z t d (x + w) y (λ k from below. (goes_below B k (omega arith) (omega arith)).step_is) in

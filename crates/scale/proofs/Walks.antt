@@ -37,34 +37,34 @@ module _ {t : Tuning} (B : BasisOf t) where
           | inl near ↦
               let G = goes_above B k (omega arith) in
               let W = walk m (k + a) (omega arith) in
-              let e : next t k - 1 ≡ k + a = omega (arith, G.next_is) in
+              let e : next t k - 1 ≡ k + a = omega arith in
               record {
                 c = W.c;
                 x = suc W.x;
                 r = W.r;
                 r_there = W.r_there;
-                ends = omega (arith, W.ends);
-                all = omega (arith, W.all);
-                sum = omega (arith, G.step_is, W.sum, ap (λ (v : ℕ). span t v m) e);
+                ends = omega arith;
+                all = omega arith;
+                sum = omega (arith, ap (λ (v : ℕ). span t v m) e);
               }
           | inr far ↦
               let G = goes_below B k there far in
               let W = walk m (k - b) (omega arith) in
-              let e : next t k - 1 ≡ k - b = omega (arith, G.next_is) in
+              let e : next t k - 1 ≡ k - b = omega arith in
               record {
                 c = suc W.c;
                 x = W.x;
                 r = W.r;
                 r_there = W.r_there;
-                ends = omega (arith, W.ends);
-                all = omega (arith, W.all);
-                sum = omega (arith, G.step_is, W.sum, ap (λ (v : ℕ). span t v m) e);
+                ends = omega arith;
+                all = omega arith;
+                sum = omega (arith, ap (λ (v : ℕ). span t v m) e);
               }
         ]
 
     -- one more step of size d at most
     one_more_at_most : (m j k : ℕ) (V : Walk j m) (W : Walk k m) → j < t.notes → V.c < 2 + W.c
-    one_more_at_most m j k V W there = lt_of_mul-lt-mul_right t.notes {m = V.c} {n = 2 + W.c} (omega (arith, V.ends, W.ends, W.r_there))
+    one_more_at_most m j k V W there = lt_of_mul-lt-mul_right t.notes {m = V.c} {n = 2 + W.c} (omega arith)
 
     spans_near : (m j k : ℕ) → j < t.notes → k < t.notes → Near u d (span t j m) (span t k m)
     spans_near m j k j_there k_there =

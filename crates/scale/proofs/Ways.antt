@@ -14,22 +14,22 @@ pub record Way (N g k j w : ℕ) : Type 0 where
 module _ {N g k j w : ℕ} (W : Way N g k j w) where
   -- a way depends on the notes' numbers only by their difference
   pub way_from_zero : (i : ℕ) → k + i ≡ j → Way N g 0 i w
-  way_from_zero i later = record { c = W.c; e = W.e; is = omega (arith, W.is, ap (λ (x : ℕ). x * g) later) }
+  way_from_zero i later = record { c = W.c; e = W.e; is = omega (arith, ap (λ (x : ℕ). x * g) later) }
 
   pub way_to_zero : (i : ℕ) → j + i ≡ k → Way N g i 0 w
-  way_to_zero i earlier = record { c = W.c; e = W.e; is = omega (arith, W.is, ap (λ (x : ℕ). x * g) earlier) }
+  way_to_zero i earlier = record { c = W.c; e = W.e; is = omega (arith, ap (λ (x : ℕ). x * g) earlier) }
 
   -- what is left of a longer way
   pub way_rest : {i x : ℕ} (v : ℕ) → w + v ≡ x → Way N g k i x → Way N g j i v
-  way_rest v left V = record { c = W.e + V.c; e = W.c + V.e; is = omega (arith, W.is, V.is) }
+  way_rest v left V = record { c = W.e + V.c; e = W.c + V.e; is = omega arith }
 
   -- and what came before its last part
   pub way_first : {i x : ℕ} (v : ℕ) → v + w ≡ x → Way N g i j x → Way N g i k v
-  way_first v left V = record { c = W.e + V.c; e = W.c + V.e; is = omega (arith, W.is, V.is) }
+  way_first v left V = record { c = W.e + V.c; e = W.c + V.e; is = omega arith }
 
   -- the way to the note itself is 0
   pub way_to_same : w < N → k ≡ j → w ≡ 0
-  way_to_same short same = same_below N w 0 W.c W.e short (omega arith) (omega (arith, W.is, ap (λ (x : ℕ). x * g) same))
+  way_to_same short same = same_below N w 0 W.c W.e short (omega arith) (omega (arith, ap (λ (x : ℕ). x * g) same))
 
 abbrev pub WayIn : Tuning → ℕ → ℕ → ℕ → Type 0
 WayIn t = Way t.octave t.interval
@@ -55,7 +55,7 @@ module _ (t : Tuning) (pos : 0 < t.octave) where
       omega (arith, remainder_is t.octave (note t j + t.octave - note t k) (note t j - note t k) 0 1 (omega arith) (omega arith))
 
   pub way_to_lower : (k j : ℕ) → note t j < note t k → note t k + way t k j ≡ note t j + t.octave
-  way_to_lower k j down = grind (arith, note_low k, mod-eq_of_lt)
+  way_to_lower k j down = grind (arith, mod-eq_of_lt)
 
   pub way_goes : (k j : ℕ) → WayIn t k j (way t k j)
   way_goes k j =
@@ -74,7 +74,7 @@ module _ (t : Tuning) (pos : 0 < t.octave) where
   pub way_is : (k j w : ℕ) → w < t.octave → WayIn t k j w → way t k j ≡ w
   way_is k j w short W =
       let V = way_goes k j in
-      same_below t.octave (way t k j) w (V.c + W.e) (W.c + V.e) (way_short k j) short (omega (arith, W.is, V.is))
+      same_below t.octave (way t k j) w (V.c + W.e) (W.c + V.e) (way_short k j) short (omega arith)
 
   pub way_lands : (k j w : ℕ) → WayIn t k j w → (note t k + w) % t.octave ≡ note t j
   way_lands k j w W =
