@@ -82,14 +82,11 @@ basis_grows N g B k v some = (
 module _ {N g : ℕ} (B : Basis N g) where
   open B use {a, b, u, d}
 
-  -- at u = d the notes repeat after the first a + b
-  pub note_again : u ≡ d → (k : ℕ) → (k + (a + b)) * g % N ≡ k * g % N
-  note_again same k =
-      let round : (k + (a + b)) * g ≡ k * g + (p B + q B) * N = omega (arith, a_intervals B, b_intervals B) in
-      ap (λ (x : ℕ). x % N) round ∙ add-mul-mod_self_right (k * g) (p B + q B) N
-
+  -- at u = d note a + b is as high as note 0
   pub not_all_different : u ≡ d → (n : ℕ) → a + b < n → ((j k : ℕ) → j < k → k < n → j * g % N ≢ k * g % N) → ⊥
-  not_all_different same n early differ = differ 0 (0 + (a + b)) (omega arith) (omega arith) (sym (note_again same 0))
+  not_all_different same n early differ =
+      let level = remainder_is N ((a + b) * g) 0 0 (p B + q B) (octave_some B) (omega (arith, a_intervals B, b_intervals B)) in
+      differ 0 (a + b) (omega arith) (omega arith) (grind arith)
 
 -- what one note more does to the basis of a tuning
 pub data Grows {t : Tuning} (B : BasisOf t) : Type 0 where

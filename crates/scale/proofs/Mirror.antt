@@ -49,16 +49,11 @@ module _ {t : Tuning} (small : t.interval < t.octave) (B : BasisOf t) where
 
   sizes_down : sizes (down t) ≡ sizes t
   unfolding mirrored basis_down
-  sizes_down =
-      let sum : ltb t.notes (b + a) ≡ ltb t.notes (a + b) = ap (ltb t.notes) (add_comm b a) in
-      sizes_listed (down t) basis_down ∙ ap (in_order d u) sum ∙ mirrored_order u d (ltb t.notes (a + b)) ∙ sym (sizes_listed t B)
+  sizes_down = grind (arith, sizes_listed (down t) basis_down, sizes_listed t B, mirrored_order)
 
   steps_counted_down : (s : ℕ) → so_large (down t) s t.notes ≡ so_large t s t.notes
   unfolding mirrored basis_down
-  steps_counted_down s =
-      let sum : d + u ≡ u + d = add_comm d u in
-      let more : b + a - t.notes ≡ a + b - t.notes = omega arith in
-      omega (arith, steps_counted t B s, rw (sum, more) at (steps_counted (down t) basis_down s))
+  steps_counted_down s = grind (arith, steps_counted t B s, steps_counted (down t) basis_down s)
 
 pub downwards : Downwards
 unfolding Downwards Taken

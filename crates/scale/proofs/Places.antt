@@ -39,45 +39,27 @@ module _ (t : Tuning) (pos : 0 < t.octave) (differ : AllDifferent t) where
       lands = sym (mod-eq_of_lt within) ∙ G.lands
 
       others : (i : ℕ) → i < t.notes → i ≢ j → (note t i ≤ note t k) ⊎ (note t j < note t i)
-      others i i_there other =
-          elim (cases_lt (note t k) (note t i)) [
-            | inr low ↦ inl low
-            | inl high ↦
-                let different : note t i ≢ note t j = λ e. other (same_note t differ i j i_there G.there e) in
-                inr (omega (arith, way_to_higher t pos k i (omega arith)))
-          ]
+      others i i_there other = grind (arith, same_note t differ i j i_there G.there, way_to_higher t pos k i)
 
   pub place_zero : 0 < t.notes → place t 0 ≡ 0
   place_zero some = omega (arith, one_counted t (note t 0) 0 t.notes some (omega arith) others)
     where
       others : (i : ℕ) → i < t.notes → i ≢ 0 → note t 0 < note t i
-      others i there other =
-          let different : note t i ≢ note t 0 = λ e. other (same_note t differ i 0 there some e) in
-          omega arith
+      others i there other = grind (arith, same_note t differ i 0 there some)
 
   -- a step over the octave's end
   step_over : (k s j : ℕ) → k < t.notes → Goes t k s j → t.octave ≤ note t k + s → (suc (place t k) ≡ t.notes) × (j ≡ 0)
   step_over k s j there G over = (omega (arith, all_counted t (note t k) t.notes none_higher), first)
     where
       none_higher : (i : ℕ) → i < t.notes → note t i ≤ note t k
-      none_higher i i_there =
-          elim (cases_lt (note t k) (note t i)) [
-            | inr low ↦ low
-            | inl high ↦ absurd (omega (arith, way_to_higher t pos k i (omega arith)))
-          ]
+      none_higher i i_there = grind (arith, way_to_higher t pos k i, note_low t pos i)
 
       -- note 0 is no farther than the octave's end
       end : note t k + s ≡ t.octave
-      end =
-          elim (cases_lt 0 (note t k)) [
-            | inl high ↦ omega (arith, way_to_lower t pos k 0 (omega arith))
-            | inr none ↦ omega arith
-          ]
+      end = grind (arith, note_zero t, way_to_lower t pos k 0)
 
       first : j ≡ 0
-      first =
-          let level = sym G.lands ∙ ap (λ (x : ℕ). x % t.octave) end ∙ mod_self t.octave ∙ sym (note_zero t) in
-          same_note t differ j 0 G.there (omega arith) level
+      first = same_note t differ j 0 G.there (omega arith) (cc (G.lands, end, mod_self t.octave, note_zero t))
 
   pub place_of_next : (k s j : ℕ) → k < t.notes → Goes t k s j → place t j ≡ suc (place t k) % t.notes
   place_of_next k s j there G =
@@ -87,7 +69,7 @@ module _ (t : Tuning) (pos : 0 < t.octave) (differ : AllDifferent t) where
             e ∙ sym (mod-eq_of_lt (omega (arith, place_there t j G.there)))
         | inr over ↦
             let e = step_over k s j there G over in
-            ap (place t) e.1 ∙ place_zero (omega arith) ∙ sym (ap (λ (x : ℕ). x % t.notes) e.0 ∙ mod_self t.notes)
+            cc (place_zero (omega arith), mod_self t.notes)
       ]
 
 -- at every place there is a note: go on from note 0 as many times

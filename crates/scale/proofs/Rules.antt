@@ -11,46 +11,31 @@ module _ {t : Tuning} (B : BasisOf t) {k j w : ℕ} (k_there : k < t.notes) (j_t
     (short : w < t.octave) (W : WayIn t k j w) where
   open B.basis use {a, b, u, d}
 
-  pub rule_above : k + a < t.notes → (w ≡ 0) ⊎ (u ≤ w)
-  rule_above there =
+  -- it is note k itself, or the way is at least d to an earlier note and at least u to a later one
+  far : (w ≡ 0) ⊎ (((j < k) × (d ≤ w)) ⊎ ((k < j) × (u ≤ w)))
+  far =
       elim (cases_order j k) [
         | inl same ↦ inl (way_to_same W short (sym same))
-        | inr (inr later) ↦ inr (far_later B.basis W later (omega arith))
-        | inr (inl earlier) ↦ elim (cases_lt w u) [
-          | inr far ↦ inr far
-          | inl less ↦
-              let rest : WayIn t j (k + a) (u - w) = way_rest W (u - w) (omega arith) (way_above B.basis k) in
-              let far = far_later B.basis rest (omega arith) (omega arith) in
-              inl (omega arith)
-        ]
+        | inr (inl earlier) ↦ inr (inl (earlier, far_earlier B.basis W earlier (omega arith)))
+        | inr (inr later) ↦ inr (inr (later, far_later B.basis W later (omega arith)))
       ]
+
+  pub rule_above : k + a < t.notes → (w ≡ 0) ⊎ (u ≤ w)
+  rule_above there =
+      let rest = λ (earlier : j < k) (less : w < u).
+      far_later B.basis (way_rest W (u - w) (omega arith) (way_above B.basis k)) (omega arith) (omega arith) in
+      grind (arith, far)
 
   pub rule_below : b ≤ k → (w ≡ 0) ⊎ (d ≤ w)
   rule_below there =
-      elim (cases_order j k) [
-        | inl same ↦ inl (way_to_same W short (sym same))
-        | inr (inl earlier) ↦ inr (far_earlier B.basis W earlier (omega arith))
-        | inr (inr later) ↦ elim (cases_lt w d) [
-          | inr far ↦ inr far
-          | inl less ↦
-              let rest : WayIn t j (k - b) (d - w) = way_rest W (d - w) (omega arith) (way_below B.basis k (k - b) (omega arith)) in
-              let far = far_earlier B.basis rest (omega arith) (omega arith) in
-              inl (omega arith)
-        ]
-      ]
+      let rest = λ (later : k < j) (less : w < d).
+      far_earlier B.basis (way_rest W (d - w) (omega arith) (way_below B.basis k (k - b) (omega arith))) (omega arith) (omega arith) in
+      grind (arith, far)
 
   pub rule_both : t.notes ≤ k + a → k < b → (w ≡ 0) ⊎ (u + d ≤ w)
-  rule_both far near =
-      elim (cases_order j k) [
-        | inl same ↦ inl (way_to_same W short (sym same))
-        | inr (inl earlier) ↦
-            let d_far = far_earlier B.basis W earlier (omega arith) in
-            let rest : WayIn t k (j + b) (w - d) = way_first (way_below B.basis (j + b) j (omega arith)) (w - d) (omega arith) W in
-            let u_far = far_later B.basis rest (omega arith) (omega arith) in
-            inr (omega arith)
-        | inr (inr later) ↦
-            let u_far = far_later B.basis W later (omega arith) in
-            let rest : WayIn t (k + a) j (w - u) = way_rest (way_above B.basis k) (w - u) (omega arith) W in
-            let d_far = far_earlier B.basis rest (omega arith) (omega arith) in
-            inr (omega arith)
-      ]
+  rule_both above near =
+      let earlier_rest = λ (earlier : j < k) (d_far : d ≤ w).
+      far_later B.basis (way_first (way_below B.basis (j + b) j (omega arith)) (w - d) (omega arith) W) (omega arith) (omega arith) in
+      let later_rest = λ (later : k < j) (u_far : u ≤ w).
+      far_earlier B.basis (way_rest (way_above B.basis k) (w - u) (omega arith) W) (omega arith) (omega arith) in
+      grind (arith, far)

@@ -36,10 +36,6 @@ put_two : (u d : ℕ) → put_in d (put_in u []) ≡ in_order u d false
 unfolding put_in in_order
 put_two u d = grind arith
 
--- m steps of size x count m times if that is the size asked for
-many_if : (x s m : ℕ) → m * pick (x == s) 1 0 ≡ pick (x == s) m 0
-many_if x s m = grind arith
-
 pub sizes_listed : SizesListed
 unfolding times
 sizes_listed t B =
@@ -62,9 +58,7 @@ pub note_alone : NoteAlone
 unfolding put_in
 note_alone t pos one =
     let G = alone t pos one in
-    let is_so = λ (s x : ℕ). pick (x == s) 1 0 in
-    let count = λ (s : ℕ). so_large_over t s t.notes ∙ over_one t pos one (λ (x l : ℕ). is_so s x + l) 0 ∙ add-zero (is_so s t.octave) in
-    (G.step_is, G.next_is, sizes_over t t.notes ∙ over_one t pos one put_in [], count)
+    (G.step_is, G.next_is, sizes_over t t.notes ∙ over_one t pos one put_in [], λ s. so_large_over t s t.notes ∙ over_one t pos one _ 0 ∙ add-zero _)
 
 pub three_at_most : ThreeAtMost
 unfolding ThreeAtMost

@@ -21,12 +21,6 @@ module _ {t : Tuning} (B : BasisOf t) where
   abbrev pub many_d : ℕ
   many_d = t.notes - b
 
-  u_and_both : many_u + many_both ≡ b
-  u_and_both = omega arith
-
-  both_and_d : many_both + many_d ≡ a
-  both_and_d = omega arith
-
 module _ {A : Type 0} where
   -- f done with each of the first m steps
   unfoldable pub over_steps : (ℕ → A → A) → A → Tuning → ℕ → A
@@ -56,7 +50,6 @@ module _ {A : Type 0} where
         let w : ℕ = many_both B in
         let y : ℕ = many_d B in
         let first : x ≡ 0 + x = omega arith in
-        let to_b = u_and_both B in
         let all : t.notes ≡ x + w + y = omega arith in
         let ups = stretch f z t u 0 x (λ k from below. (goes_above B k (omega arith)).step_is) in
         let boths = stretch f z t (u + d) x w (λ k from below. (goes_both B k (omega arith) (omega arith)).step_is) in

@@ -7,7 +7,7 @@ use Rattle.scale.specs.Promise.{span, Spans}
 use Rattle.scale.specs.Basis.{BasisOf}
 use Rattle.scale.specs.Laws.{in_order}
 use Rattle.scale.proofs.Growth.{basis_exists}
-use Rattle.scale.proofs.Steps.{goes_above, goes_below}
+use Rattle.scale.proofs.Steps.{steps_by_basis}
 use Rattle.scale.proofs.Sizes.{sizes_listed}
 use Rattle.scale.proofs.Whole.{whole_as_sum}
 
@@ -33,33 +33,14 @@ module _ {t : Tuning} (B : BasisOf t) where
     unfolding span
     walk zero k there = record { c = 0; x = 0; r = k; r_there = there; ends = omega arith; all = omega arith; sum = omega arith }
     walk (suc m) k there =
+        let is = steps_by_basis t B k there in
         elim (cases_lt k b) [
           | inl near ↦
-              let G = goes_above B k (omega arith) in
               let W = walk m (k + a) (omega arith) in
-              let e : next t k - 1 ≡ k + a = omega arith in
-              record {
-                c = W.c;
-                x = suc W.x;
-                r = W.r;
-                r_there = W.r_there;
-                ends = omega arith;
-                all = omega arith;
-                sum = omega (arith, ap (λ (v : ℕ). span t v m) e);
-              }
+              record { c = W.c; x = suc W.x; r = W.r; r_there = W.r_there; ends = omega arith; all = omega arith; sum = grind arith }
           | inr far ↦
-              let G = goes_below B k there far in
               let W = walk m (k - b) (omega arith) in
-              let e : next t k - 1 ≡ k - b = omega arith in
-              record {
-                c = suc W.c;
-                x = W.x;
-                r = W.r;
-                r_there = W.r_there;
-                ends = omega arith;
-                all = omega arith;
-                sum = omega (arith, ap (λ (v : ℕ). span t v m) e);
-              }
+              record { c = suc W.c; x = W.x; r = W.r; r_there = W.r_there; ends = omega arith; all = omega arith; sum = grind arith }
         ]
 
     -- one more step of size d at most
@@ -97,6 +78,5 @@ unfolding Spans
 spans t j k n T whole many j_there k_there few =
     let B = basis_exists t T many in
     let all : t.notes ≡ B.basis.a + B.basis.b = (whole_as_sum B).0 whole in
-    let fits = le-ltb t.notes (B.basis.a + B.basis.b) (omega arith) in
-    let two : sizes t ≡ in_order B.basis.u B.basis.d false = sizes_listed t B ∙ ap (in_order B.basis.u B.basis.d) fits in
-    rw two (near_two B.basis.u B.basis.d (span t j n) (span t k n) (spans_near B all n j k j_there k_there))
+    rw (sizes_listed t B, le-ltb t.notes (B.basis.a + B.basis.b) (omega arith))
+    (near_two B.basis.u B.basis.d (span t j n) (span t k n) (spans_near B all n j k j_there k_there))
