@@ -103,15 +103,11 @@ module _ {N g : ℕ} (B : Basis N g) where
   -- and no two of the first a + b are at the same height
   pub first_different : (i j : ℕ) → i < j → j < a + b → i * g % N ≢ j * g % N
   first_different i j less first level =
-      let from = mod-add-div' (i * g) N in
-      let to = mod-add-div' (j * g) N in
       let W : Way N g i j 0 = record { c = j * g / N; e = i * g / N; is = omega arith } in
       omega (arith, far_later W less (omega arith))
 
 pub no_note_nearer : NoNoteNearer
 no_note_nearer N g B j some first =
-    let height = mod-add-div' (j * g) N in
-    let low = mod-lt (j * g) (octave_some B) in
     let up : Way N g 0 j (j * g % N) = record { c = j * g / N; e = 0; is = omega arith } in
     let down : Way N g j 0 (N - j * g % N) = record { c = 0; e = suc (j * g / N); is = omega arith } in
     (far_later B up some (omega arith), omega (arith, far_earlier B down some (omega arith)))

@@ -24,7 +24,6 @@ shortfall_least m g some = (grind arith, shortfall_fills m g some, grind arith)
 pub turns_begin : TurnsBegin
 turns_begin N g w some =
     let m : ℕ = ceiling (w * N) g * g in
-    let over : (w * N ≤ m) × (m < w * N + g) = omega arith in
     let filled = shortfall_fills N g some in
     let w_times = ap (λ x. w * x) filled.1 in
     let rest = remainder_is g (w * shortfall N g) (m - w * N) (ceiling (w * N) g) (w * filled.0) (omega arith) (omega arith) in

@@ -51,7 +51,6 @@ module _ (t : Tuning) (pos : 0 < t.octave) where
   -- to a higher note it stays within the octave, and to a lower one it goes over the octave's end
   pub way_to_higher : (k j : ℕ) → note t k ≤ note t j → note t k + way t k j ≡ note t j
   way_to_higher k j up =
-      let low = note_low j in
       omega (arith, remainder_is t.octave (note t j + t.octave - note t k) (note t j - note t k) 0 1 (omega arith) (omega arith))
 
   pub way_to_lower : (k j : ℕ) → note t j < note t k → note t k + way t k j ≡ note t j + t.octave
@@ -59,8 +58,6 @@ module _ (t : Tuning) (pos : 0 < t.octave) where
 
   pub way_goes : (k j : ℕ) → WayIn t k j (way t k j)
   way_goes k j =
-      let from = mod-add-div' (k * t.interval) t.octave in
-      let to = mod-add-div' (j * t.interval) t.octave in
       elim (cases_lt (note t j) (note t k)) [
         | inl down ↦
             let over = way_to_lower k j down in
