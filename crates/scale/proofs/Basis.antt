@@ -16,14 +16,14 @@ nearest N a b u d i h x m k pos fills ex some apart first =
     elim (cases_lt (a * h) (i * u)) [
       | inr few ↦
           let z = octaves_above N (a * h) (i * u) k m pos (sym apart) few in
-          let h_fills = ap (λ (v : ℕ). h * v) fills in
-          let e : h * N ≡ (u * x + z.0 * d) * N = omega (arith, ap (λ (v : ℕ). v * d) z.1, ap (λ (v : ℕ). v * u) ex) in
+          let h_fills = ap (λ v. h * v) fills in
+          let e : h * N ≡ (u * x + z.0 * d) * N = omega (arith, ap (λ v. v * d) z.1, ap (λ v. v * u) ex) in
           omega (arith, eq_of_mul-eq-mul_right N pos h (u * x + z.0 * d) e, mul-le-mul_left u some)
       | inl many ↦
           let y = octaves_above N (i * u) (a * h) m k pos apart (omega arith) in
           let more : 0 < y.0 = some_octaves N y.0 (i * u - a * h) (omega arith) (omega arith) in
-          let i_fills = ap (λ (v : ℕ). i * v) fills in
-          let e : i * N ≡ (a * x + b * y.0) * N = omega (arith, ap (λ (v : ℕ). v * b) y.1, ap (λ (v : ℕ). v * a) ex) in
+          let i_fills = ap (λ v. i * v) fills in
+          let e : i * N ≡ (a * x + b * y.0) * N = omega (arith, ap (λ v. v * b) y.1, ap (λ v. v * a) ex) in
           omega (arith, eq_of_mul-eq-mul_right N pos i (a * x + b * y.0) e, mul-le-mul_left a some, mul-le-mul_left b more)
     ]
 
@@ -66,28 +66,28 @@ module _ {N g : ℕ} (B : Basis N g) where
   way_above k = record { c = p; e = 0; is = omega (arith, a_intervals) }
 
   pub way_below : (k j : ℕ) → j + b ≡ k → Way N g k j d
-  way_below k j back = record { c = 0; e = q; is = omega (arith, b_intervals, ap (λ (x : ℕ). x * g) back) }
+  way_below k j back = record { c = 0; e = q; is = omega (arith, b_intervals, ap (λ x. x * g) back) }
 
   pub way_both : (k j : ℕ) → j + b ≡ k + a → Way N g k j (u + d)
-  way_both k j back = record { c = p; e = q; is = omega (arith, a_intervals, b_intervals, ap (λ (x : ℕ). x * g) back) }
+  way_both k j back = record { c = p; e = q; is = omega (arith, a_intervals, b_intervals, ap (λ x. x * g) back) }
 
   -- note i of the first a + b is not in the gap above note 0, nor in the gap below it
   gap_above : (i h : ℕ) → 0 < i → i < a + b → Way N g 0 i h → u ≤ h
   gap_above i h some first W =
-      let up = ap (λ (v : ℕ). a * v) W.is in
-      let down = ap (λ (v : ℕ). b * v) W.is in
-      let a_up = ap (λ (v : ℕ). i * v) a_intervals in
-      let b_down = ap (λ (v : ℕ). i * v) b_intervals in
+      let up = ap (λ v. a * v) W.is in
+      let down = ap (λ v. b * v) W.is in
+      let a_up = ap (λ v. i * v) a_intervals in
+      let b_down = ap (λ v. i * v) b_intervals in
       let x = octaves_above N (i * d + h * b) 0 (b * W.c) (i * q + b * W.e) octave_some (omega arith) (omega arith) in
       let more = some_octaves N x.0 (i * d + h * b) (omega (arith, mul-pos some B.some_d)) (omega arith) in
       nearest N a b u d i h x.0 (i * p + a * W.e) (a * W.c) octave_some B.fills (omega arith) more (omega arith) first
 
   gap_below : (i h : ℕ) → 0 < i → i < a + b → Way N g i 0 h → d ≤ h
   gap_below i h some first W =
-      let up = ap (λ (v : ℕ). a * v) W.is in
-      let down = ap (λ (v : ℕ). b * v) W.is in
-      let a_up = ap (λ (v : ℕ). i * v) a_intervals in
-      let b_down = ap (λ (v : ℕ). i * v) b_intervals in
+      let up = ap (λ v. a * v) W.is in
+      let down = ap (λ v. b * v) W.is in
+      let a_up = ap (λ v. i * v) a_intervals in
+      let b_down = ap (λ v. i * v) b_intervals in
       let fills : b * u + a * d ≡ N = omega arith in
       let x = octaves_above N (i * u + h * a) 0 (i * p + a * W.c) (a * W.e) octave_some (omega arith) (omega arith) in
       let more = some_octaves N x.0 (i * u + h * a) (omega (arith, mul-pos some B.some_u)) (omega arith) in

@@ -34,7 +34,7 @@ module _ {N g : ℕ} (B : Basis N g) (k v : ℕ) where
   -- k steps at once that bring the note above nearer: v of its distance is left
   abbrev pub nearer_above : k * d + v ≡ u → 0 < v → Basis N g
   nearer_above left some =
-      let k_times = ap (λ (x : ℕ). k * x) (b_intervals B) in
+      let k_times = ap (λ x. k * x) (b_intervals B) in
       let apart : (a + k * b) * g + 0 * N ≡ v + (p B + k * q B) * N = omega (arith, a_intervals B) in
       record {
         a = a + k * b;
@@ -43,7 +43,7 @@ module _ {N g : ℕ} (B : Basis N g) (k v : ℕ) where
         d = d;
         above = remainder_is N ((a + k * b) * g) v 0 (p B + k * q B) (omega arith) apart;
         below = B.below;
-        fills = omega (arith, ap (λ (x : ℕ). b * x) left);
+        fills = omega (arith, ap (λ x. b * x) left);
         some_a = omega arith;
         some_b = B.some_b;
         some_u = some;
@@ -53,7 +53,7 @@ module _ {N g : ℕ} (B : Basis N g) (k v : ℕ) where
   -- and the note below
   abbrev pub nearer_below : k * u + v ≡ d → 0 < v → Basis N g
   nearer_below left some =
-      let k_times = ap (λ (x : ℕ). k * x) (a_intervals B) in
+      let k_times = ap (λ x. k * x) (a_intervals B) in
       let apart : (b + k * a) * g + 1 * N ≡ N - v + (q B + k * p B) * N = omega (arith, b_intervals B) in
       let height = remainder_is N ((b + k * a) * g) (N - v) 1 (q B + k * p B) (omega arith) apart in
       record {
@@ -63,7 +63,7 @@ module _ {N g : ℕ} (B : Basis N g) (k v : ℕ) where
         d = v;
         above = B.above;
         below = omega arith;
-        fills = omega (arith, ap (λ (x : ℕ). a * x) left);
+        fills = omega (arith, ap (λ x. a * x) left);
         some_a = B.some_a;
         some_b = omega arith;
         some_u = B.some_u;

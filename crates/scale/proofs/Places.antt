@@ -79,7 +79,7 @@ note_at_place t T zero there = (0, there, place_zero t T.0 T.5 there)
 note_at_place t T (suc p) there =
     let (k, k_there, at_p) = note_at_place t T p (omega arith) in
     let (s, j, G) = goes_on t T k k_there in
-    (j, G.there, place_of_next t T.0 T.5 k s j k_there G ∙ ap (λ (x : ℕ). suc x % t.notes) at_p ∙ mod-eq_of_lt there)
+    (j, G.there, place_of_next t T.0 T.5 k s j k_there G ∙ ap (λ x. suc x % t.notes) at_p ∙ mod-eq_of_lt there)
 
 pub next_place : NextPlace
 unfolding Taken

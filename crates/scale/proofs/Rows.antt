@@ -101,7 +101,7 @@ module _ {t : Tuning} {row : List ℕ} (R : Row t row) where
       let x_there : x < t.notes = mod-lt (suc i) (omega arith) in
       let (s, j, G) = goes_on t row_taken (at t row i) (R.there i there) in
       let from = place_of_next t pos row_differs (at t row i) s j (R.there i there) G in
-      let same = from ∙ ap (λ (p : ℕ). suc p % t.notes) (row_places i there) ∙ sym (row_places x x_there) in
+      let same = from ∙ ap (λ p. suc p % t.notes) (row_places i there) ∙ sym (row_places x x_there) in
       G.next_is ∙ ap suc (same_place t pos row_differs j (at t row x) G.there (R.there x x_there) same)
 
   module _ (B : BasisOf t) where

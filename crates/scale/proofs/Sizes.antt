@@ -52,7 +52,7 @@ sizes_listed t B =
         rw (lt-ltb t.notes (a + b) (omega arith), put_often (suc w)) (put_three u d B.basis.some_u B.basis.some_d)
 
 pub steps_counted : StepsCounted
-steps_counted t B s = grind (arith, so_large_over t s t.notes, sum_all B (λ (x : ℕ). pick (x == s) 1 0))
+steps_counted t B s = grind (arith, so_large_over t s t.notes, sum_all B (λ x. pick (x == s) 1 0))
 
 pub note_alone : NoteAlone
 unfolding put_in

@@ -62,12 +62,12 @@ module _ {A : Type 0} where
   over_one t pos one f z = cc ((alone t pos one).step_is)
 
 -- three things that are done with every step
-all_steps_over : (t : Tuning) (m : ℕ) → all_steps t m ≡ over_steps (λ (s l : ℕ). s + l) 0 t m
+all_steps_over : (t : Tuning) (m : ℕ) → all_steps t m ≡ over_steps (λ s l. s + l) 0 t m
 unfolding all_steps over_steps
 all_steps_over t zero = refl
 all_steps_over t (suc m) = rw (all_steps_over t m)
 
-pub so_large_over : (t : Tuning) (s m : ℕ) → so_large t s m ≡ over_steps (λ (x l : ℕ). pick (x == s) 1 0 + l) 0 t m
+pub so_large_over : (t : Tuning) (s m : ℕ) → so_large t s m ≡ over_steps (λ x l. pick (x == s) 1 0 + l) 0 t m
 unfolding so_large over_steps
 so_large_over t s zero = refl
 so_large_over t s (suc m) = rw (so_large_over t s m)
@@ -78,7 +78,7 @@ sizes_over t zero = refl
 sizes_over t (suc m) = rw (sizes_over t m)
 
 -- a number added i times
-added : (i s z : ℕ) → times i (λ (l : ℕ). s + l) z ≡ i * s + z
+added : (i s z : ℕ) → times i (λ l. s + l) z ≡ i * s + z
 unfolding times
 added zero s z = omega arith
 added (suc i) s z = omega (arith, added i s z)
@@ -87,8 +87,8 @@ module _ {t : Tuning} (B : BasisOf t) where
   open B.basis use {u, d}
 
   -- the sum of what f makes of each step
-  pub sum_all : (f : ℕ → ℕ) → over_steps (λ (s l : ℕ). f s + l) 0 t t.notes ≡ many_u B * f u + many_both B * f (u + d) + many_d B * f d
-  sum_all f = over_all B (λ (s l : ℕ). f s + l) 0 ∙ simp added (omega arith)
+  pub sum_all : (f : ℕ → ℕ) → over_steps (λ s l. f s + l) 0 t t.notes ≡ many_u B * f u + many_both B * f (u + d) + many_d B * f d
+  sum_all f = over_all B (λ s l. f s + l) 0 ∙ simp added (omega arith)
 
   steps_together : all_steps t t.notes ≡ t.octave
   steps_together =
@@ -100,6 +100,6 @@ pub go_round : GoRound
 unfolding GoRound
 go_round t T =
     elim (one_or_more t T) [
-      | one_note pos one ↦ all_steps_over t t.notes ∙ over_one t pos one (λ (s l : ℕ). s + l) 0 ∙ add-zero t.octave
+      | one_note pos one ↦ all_steps_over t t.notes ∙ over_one t pos one (λ s l. s + l) 0 ∙ add-zero t.octave
       | has_basis B ↦ steps_together B
     ]

@@ -14,10 +14,10 @@ pub record Way (N g k j w : ℕ) : Type 0 where
 module _ {N g k j w : ℕ} (W : Way N g k j w) where
   -- a way depends on the notes' numbers only by their difference
   pub way_from_zero : (i : ℕ) → k + i ≡ j → Way N g 0 i w
-  way_from_zero i later = record { c = W.c; e = W.e; is = omega (arith, ap (λ (x : ℕ). x * g) later) }
+  way_from_zero i later = record { c = W.c; e = W.e; is = omega (arith, ap (λ x. x * g) later) }
 
   pub way_to_zero : (i : ℕ) → j + i ≡ k → Way N g i 0 w
-  way_to_zero i earlier = record { c = W.c; e = W.e; is = omega (arith, ap (λ (x : ℕ). x * g) earlier) }
+  way_to_zero i earlier = record { c = W.c; e = W.e; is = omega (arith, ap (λ x. x * g) earlier) }
 
   -- what is left of a longer way
   pub way_rest : {i x : ℕ} (v : ℕ) → w + v ≡ x → Way N g k i x → Way N g j i v
@@ -29,7 +29,7 @@ module _ {N g k j w : ℕ} (W : Way N g k j w) where
 
   -- the way to the note itself is 0
   pub way_to_same : w < N → k ≡ j → w ≡ 0
-  way_to_same short same = same_below N w 0 W.c W.e short (omega arith) (omega (arith, ap (λ (x : ℕ). x * g) same))
+  way_to_same short same = same_below N w 0 W.c W.e short (omega arith) (omega (arith, ap (λ x. x * g) same))
 
 abbrev pub WayIn : Tuning → ℕ → ℕ → ℕ → Type 0
 WayIn t = Way t.octave t.interval
