@@ -10,21 +10,23 @@ use Rattle.scale.proofs.Ways.{Way, way_from_zero, way_to_zero}
 
 -- What both gaps come to, in numbers alone: for the one above note 0, h is how far note i is above it, and for the one below it a and b, and u and d,
 -- are exchanged. Either h is u times x and some more, or i is a times x and b times y, with x and y above 0.
-nearest : (N a b u d i h x m k : ℕ) → 0 < N → a * d + b * u ≡ N → i * d + h * b ≡ x * N → 0 < x → i * u + m * N ≡ a * h + k * N → i < a + b →
-    u ≤ h
-nearest N a b u d i h x m k pos fills ex some apart first =
+nearest : (N a b u d i h c e m k : ℕ) → 0 < N → a * d + b * u ≡ N → 0 < i → 0 < d → i * d + h * b + c * N ≡ e * N →
+    i * u + m * N ≡ a * h + k * N → i < a + b → u ≤ h
+nearest N a b u d i h c e m k pos fills i_some d_some whole apart first =
+    let x = octaves_above N (i * d + h * b) 0 c e pos (omega arith) (omega arith) in
+    let some : 0 < x.0 = some_octaves N x.0 (i * d + h * b) (omega (arith, mul-pos i_some d_some)) (omega arith) in
     elim (cases_lt (a * h) (i * u)) [
       | inr few ↦
           let z = octaves_above N (a * h) (i * u) k m pos (sym apart) few in
           let h_fills = ap (λ v. h * v) fills in
-          let e : h * N ≡ (u * x + z.0 * d) * N = omega (arith, ap (λ v. v * d) z.1, ap (λ v. v * u) ex) in
-          omega (arith, eq_of_mul-eq-mul_right N pos h (u * x + z.0 * d) e, mul-le-mul_left u some)
+          let h_is : h * N ≡ (u * x.0 + z.0 * d) * N = omega (arith, ap (λ v. v * d) z.1, ap (λ v. v * u) x.1) in
+          omega (arith, eq_of_mul-eq-mul_right N pos h (u * x.0 + z.0 * d) h_is, mul-le-mul_left u some)
       | inl many ↦
           let y = octaves_above N (i * u) (a * h) m k pos apart (omega arith) in
           let more : 0 < y.0 = some_octaves N y.0 (i * u - a * h) (omega arith) (omega arith) in
           let i_fills = ap (λ v. i * v) fills in
-          let e : i * N ≡ (a * x + b * y.0) * N = omega (arith, ap (λ v. v * b) y.1, ap (λ v. v * a) ex) in
-          omega (arith, eq_of_mul-eq-mul_right N pos i (a * x + b * y.0) e, mul-le-mul_left a some, mul-le-mul_left b more)
+          let i_is : i * N ≡ (a * x.0 + b * y.0) * N = omega (arith, ap (λ v. v * b) y.1, ap (λ v. v * a) x.1) in
+          omega (arith, eq_of_mul-eq-mul_right N pos i (a * x.0 + b * y.0) i_is, mul-le-mul_left a some, mul-le-mul_left b more)
     ]
 
 module _ {N g : ℕ} (B : Basis N g) where
@@ -78,9 +80,7 @@ module _ {N g : ℕ} (B : Basis N g) where
       let down = ap (λ v. b * v) W.is in
       let a_up = ap (λ v. i * v) a_intervals in
       let b_down = ap (λ v. i * v) b_intervals in
-      let x = octaves_above N (i * d + h * b) 0 (b * W.c) (i * q + b * W.e) octave_some (omega arith) (omega arith) in
-      let more = some_octaves N x.0 (i * d + h * b) (omega (arith, mul-pos some B.some_d)) (omega arith) in
-      nearest N a b u d i h x.0 (i * p + a * W.e) (a * W.c) octave_some B.fills (omega arith) more (omega arith) first
+      nearest N a b u d i h (b * W.c) (i * q + b * W.e) (i * p + a * W.e) (a * W.c) octave_some B.fills some B.some_d (omega arith) (omega arith) first
 
   gap_below : (i h : ℕ) → 0 < i → i < a + b → Way N g i 0 h → d ≤ h
   gap_below i h some first W =
@@ -89,9 +89,7 @@ module _ {N g : ℕ} (B : Basis N g) where
       let a_up = ap (λ v. i * v) a_intervals in
       let b_down = ap (λ v. i * v) b_intervals in
       let fills : b * u + a * d ≡ N = omega arith in
-      let x = octaves_above N (i * u + h * a) 0 (i * p + a * W.c) (a * W.e) octave_some (omega arith) (omega arith) in
-      let more = some_octaves N x.0 (i * u + h * a) (omega (arith, mul-pos some B.some_u)) (omega arith) in
-      nearest N b a d u i h x.0 (b * W.e) (i * q + b * W.c) octave_some fills (omega arith) more (omega arith) (omega arith)
+      nearest N b a d u i h (i * p + a * W.c) (a * W.e) (b * W.e) (i * q + b * W.c) octave_some fills some B.some_u (omega arith) (omega arith) (omega arith)
 
   -- so it is at least u up to a note with a larger number, if that is larger by less than a + b, and at least d up to one with a smaller number
   pub far_later : {k j w : ℕ} → Way N g k j w → k < j → j < k + (a + b) → u ≤ w

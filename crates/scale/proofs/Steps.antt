@@ -32,15 +32,8 @@ goes : (t : Tuning) → AllDifferent t → (k s j : ℕ) → 0 < s → s ≤ t.o
 goes t differ k s j some short there lands is least =
     let step_is : step t k ≡ s = way_up_is t k s t.notes t.octave some short least is in
     let leads : (note t k + step t k) % t.octave ≡ note t j = rw step_is lands in
-    record {
-      there = there;
-      some = some;
-      short = short;
-      step_is = step_is;
-      next_is = next_in_is t k j t.notes there (sym leads) (λ i h e. same_note t differ i j h there (e ∙ leads));
-      lands = lands;
-      least = least;
-    }
+    let next_is : next t k ≡ suc j = next_in_is t k j t.notes there (sym leads) (λ i h e. same_note t differ i j h there (e ∙ leads)) in
+    assumption
 
 module _ {t : Tuning} (B : BasisOf t) where
   open B.basis use {a, b, u, d}
