@@ -13,20 +13,18 @@ use Rattle.scale.proofs.Counts.{at_most, all_counted, one_counted, counts_itself
 module _ (t : Tuning) where
   -- of the notes up to a note's height all but the note itself count for its place
   pub place_counts : (k : ℕ) → k < t.notes → up_to t (note t k) t.notes ≡ suc (place t k)
-  place_counts k there = omega (arith, counts_itself t (note t k) k t.notes there (omega arith))
+  place_counts k there = grind (arith, counts_itself)
 
   pub place_there : (k : ℕ) → k < t.notes → place t k < t.notes
   place_there k there = omega (arith, at_most t (note t k) t.notes)
 
   -- the higher note has the higher place
   pub place_rises : (j k : ℕ) → j < t.notes → k < t.notes → note t j < note t k → place t j < place t k
-  place_rises j k j_there k_there less =
-      omega (arith, place_counts j j_there, rises_over t (note t j) (note t k) k t.notes k_there less (omega arith))
+  place_rises j k j_there k_there less = grind (arith, place_counts, rises_over)
 
 module _ (t : Tuning) (pos : 0 < t.octave) (differ : AllDifferent t) where
   pub same_place : (j k : ℕ) → j < t.notes → k < t.notes → place t j ≡ place t k → j ≡ k
-  same_place j k j_there k_there same =
-      grind (arith, place_rises t j k j_there k_there, place_rises t k j k_there j_there)
+  same_place j k j_there k_there same = grind (arith, place_rises)
 
   -- a step that stays within the octave
   step_within : (k s j : ℕ) → k < t.notes → Goes t k s j → note t k + s < t.octave → place t j ≡ suc (place t k)
@@ -39,38 +37,30 @@ module _ (t : Tuning) (pos : 0 < t.octave) (differ : AllDifferent t) where
       lands = sym (mod-eq_of_lt within) ∙ G.lands
 
       others : (i : ℕ) → i < t.notes → i ≢ j → (note t i ≤ note t k) ⊎ (note t j < note t i)
-      others i i_there other = grind (arith, same_note t differ i j i_there G.there, way_to_higher t pos k i)
+      others i i_there other = grind (arith, way_to_higher)
 
   pub place_zero : 0 < t.notes → place t 0 ≡ 0
   place_zero some = omega (arith, one_counted t (note t 0) 0 t.notes some (omega arith) others)
     where
       others : (i : ℕ) → i < t.notes → i ≢ 0 → note t 0 < note t i
-      others i there other = grind (arith, same_note t differ i 0 there some)
+      others i there other = grind arith
 
   -- a step over the octave's end
   step_over : (k s j : ℕ) → k < t.notes → Goes t k s j → t.octave ≤ note t k + s → (suc (place t k) ≡ t.notes) × (j ≡ 0)
   step_over k s j there G over = (omega (arith, all_counted t (note t k) t.notes none_higher), first)
     where
       none_higher : (i : ℕ) → i < t.notes → note t i ≤ note t k
-      none_higher i i_there = grind (arith, way_to_higher t pos k i, note_low t pos i)
+      none_higher i i_there = grind (arith, way_to_higher t pos k i)
 
       -- note 0 is no farther than the octave's end
       end : note t k + s ≡ t.octave
-      end = grind (arith, note_zero t, way_to_lower t pos k 0)
+      end = grind (arith, way_to_lower t pos k 0)
 
       first : j ≡ 0
-      first = same_note t differ j 0 G.there (omega arith) (cc (G.lands, end, mod_self t.octave, note_zero t))
+      first = grind (arith, end, mod_self)
 
   pub place_of_next : (k s j : ℕ) → k < t.notes → Goes t k s j → place t j ≡ suc (place t k) % t.notes
-  place_of_next k s j there G =
-      elim (cases_lt (note t k + s) t.octave) [
-        | inl within ↦
-            let e = step_within k s j there G within in
-            e ∙ sym (mod-eq_of_lt (omega (arith, place_there t j G.there)))
-        | inr over ↦
-            let e = step_over k s j there G over in
-            cc (place_zero (omega arith), mod_self t.notes)
-      ]
+  place_of_next k s j there G = grind (arith, step_within, mod-eq_of_lt, place_there, step_over, place_zero, mod_self)
 
 -- at every place there is a note: go on from note 0 as many times
 note_at_place : (t : Tuning) → Taken t → (p : ℕ) → p < t.notes → (k : ℕ) × (k < t.notes) × (place t k ≡ p)
@@ -89,7 +79,7 @@ next_place t k T there =
     (omega arith, omega arith, ap (place t) e ∙ place_of_next t T.0 T.5 k s j there G)
 
 pub places_by_height : PlacesByHeight
-places_by_height t j k j_there k_there = (λ less. grind (arith, place_rises t k j k_there j_there), place_rises t j k j_there k_there)
+places_by_height t j k j_there k_there = grind (arith, place_rises)
 
 pub places_differ : PlacesDiffer
 unfolding Taken

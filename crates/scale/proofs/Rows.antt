@@ -81,10 +81,10 @@ module _ {t : Tuning} {row : List ℕ} (R : Row t row) where
 
   row_taken : Taken t
   unfolding Taken
-  row_taken = let r = range_is t.octave t.interval t.notes R.ranged in (r.0, r.1, r.2, r.3, r.4, row_differs)
+  row_taken = grind (arith, row_differs)
 
   places_rise : (i : ℕ) → suc i < t.notes → place t (at t row i) < place t (at t row (suc i))
-  places_rise i less = place_rises t (at t row i) (at t row (suc i)) (R.there i (omega arith)) (R.there (suc i) less) (R.rises i less)
+  places_rise i less = grind (arith, place_rises)
 
   -- n places that rise, all below n, are 0 to n - 1
   row_places : (i : ℕ) → i < t.notes → place t (at t row i) ≡ i

@@ -90,9 +90,7 @@ alone t pos one = goes t (λ j k less there. absurd (omega arith)) 0 t.octave 0 
     lands = add-mod_right (note t 0) t.octave ∙ mod-mod (0 * t.interval) t.octave
 
     least : (i : ℕ) → i < t.notes → (way t 0 i ≡ 0) ⊎ (t.octave ≤ way t 0 i)
-    least i there =
-        let first : i ≡ 0 = omega arith in
-        inl (way_to_same (way_goes t pos 0 i) (way_short t pos 0 i) (sym first))
+    least i there = grind arith
 
 -- every note of a taken tuning has a step and a next note
 pub goes_on : (t : Tuning) → Taken t → (k : ℕ) → k < t.notes → (s : ℕ) × (j : ℕ) × Goes t k s j
