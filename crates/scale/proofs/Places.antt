@@ -6,7 +6,7 @@ use Rattle.scale.specs.Notes.{Tuning, note, up_to, place, next}
 use Rattle.scale.specs.Promise.{Taken}
 use Rattle.scale.specs.Basis.{AllDifferent}
 use Rattle.scale.specs.Laws.{NextPlace, PlacesByHeight, PlacesDiffer, PlacesFilled}
-use Rattle.scale.proofs.Ways.{note_zero, note_low, way_to_higher, way_to_lower}
+use Rattle.scale.proofs.Ways.{note_low, way_to_higher, way_to_lower}
 use Rattle.scale.proofs.Steps.{Goes, same_note, goes_on}
 use Rattle.scale.proofs.Counts.{at_most, all_counted, one_counted, counts_itself, rises_over, rises_by_one}
 

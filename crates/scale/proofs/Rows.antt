@@ -11,7 +11,7 @@ use Rattle.scale.specs.Promise.{Taken}
 use Rattle.scale.specs.Basis.{BasisOf, AllDifferent}
 use Rattle.scale.specs.Laws.{in_order, so_many}
 use Rattle.scale.specs.Scales.{sizes_of, AsMany, WrittenOut, FiveFifths, SevenFifths, SevenInTwelve}
-use Rattle.scale.proofs.Below.{all_below, some_below, grows_more}
+use Rattle.scale.proofs.Below.{all_below, some_below, all_below_is, some_below_is, grows_more}
 use Rattle.scale.proofs.Basis.{octave_some}
 use Rattle.scale.proofs.Growth.{basis_exists}
 use Rattle.scale.proofs.Steps.{goes_below, goes_on, next_zero}
@@ -53,19 +53,15 @@ module _ (t : Tuning) (row : List ℕ) where
       let (long, q) = and_parts _ _ p in
       let (there, r) = and_parts _ _ q in
       let (all, rises) = and_parts _ _ r in
-      let is_at = λ (k : ℕ). Decides-below_or (λ i. at i == k) (λ i. at i ≡ k) (some_below (λ i. at i == k)) (λ i. Decides-eqb (at i) k) refl (λ _. refl) t.notes in
+      let is_at = λ (k : ℕ). some_below_is (λ i. at i == k) (λ i. at i ≡ k) (λ i. Decides-eqb (at i) k) t.notes in
+      let lower = λ (i : ℕ). Decides-ltb (note t (at i)) (note t (at (suc i))) in
       record {
         ranged = ranged;
         long = eqb-true _ _ long;
-        there = (Decides-below_and is_note (λ i. at i < t.notes) (all_below is_note) (λ i. Decides-ltb (at i) t.notes) refl (λ _. refl) t.notes).0 there;
-        all = (Decides-below_and is_there (λ k. (i : ℕ) × (i < t.notes) × (at i ≡ k)) (all_below is_there) is_at refl (λ _. refl) t.notes).0 all;
-        rises = λ i less.
-            (Decides-below_and is_lower (λ i. note t (at i) < note t (at (suc i))) (all_below is_lower) (λ i. Decides-ltb (note t (at i)) (note t (at (suc i)))) refl (λ _. refl) (t.notes - 1)).0
-            rises i (omega arith);
+        there = (all_below_is is_note (λ i. at i < t.notes) (λ i. Decides-ltb (at i) t.notes) t.notes).0 there;
+        all = (all_below_is is_there (λ k. (i : ℕ) × (i < t.notes) × (at i ≡ k)) is_at t.notes).0 all;
+        rises = λ i less. (all_below_is is_lower (λ i. note t (at i) < note t (at (suc i))) lower (t.notes - 1)).0 rises i (omega arith);
       }
-
-range_is : (N g n : ℕ) → (octave_fits N && (interval_fits N g && notes_fit N n)) ≡ true → (0 < N) × (N ≤ 1000000000) × (g < N) × (0 < n) × (n ≤ N)
-range_is N g n fits = grind arith
 
 module _ {t : Tuning} {row : List ℕ} (R : Row t row) where
   row_rises : (i j : ℕ) → i < j → j < t.notes → note t (at t row i) < note t (at t row j)
@@ -96,7 +92,7 @@ module _ {t : Tuning} {row : List ℕ} (R : Row t row) where
 
   row_nexts : (i : ℕ) → i < t.notes → next t (at t row i) ≡ suc (at t row (suc i % t.notes))
   row_nexts i there =
-      let pos = (range_is t.octave t.interval t.notes R.ranged).0 in
+      let pos : 0 < t.octave = grind arith in
       let x : ℕ = suc i % t.notes in
       let x_there : x < t.notes = mod-lt (suc i) (omega arith) in
       let (s, j, G) = goes_on t row_taken (at t row i) (R.there i there) in

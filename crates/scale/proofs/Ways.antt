@@ -38,9 +38,6 @@ WayIn t = Way t.octave t.interval
 abbrev pub way : Tuning → ℕ → ℕ → ℕ
 way t k j = (note t j + t.octave - note t k) % t.octave
 
-pub note_zero : (t : Tuning) → note t 0 ≡ 0
-note_zero t = grind arith
-
 module _ (t : Tuning) (pos : 0 < t.octave) where
   pub note_low : (k : ℕ) → note t k < t.octave
   note_low k = mod-lt (k * t.interval) pos
