@@ -80,7 +80,8 @@ module _ {N g : ℕ} (B : Basis N g) where
       let down = ap (λ v. b * v) W.is in
       let a_up = ap (λ v. i * v) a_intervals in
       let b_down = ap (λ v. i * v) b_intervals in
-      nearest N a b u d i h (b * W.c) (i * q + b * W.e) (i * p + a * W.e) (a * W.c) octave_some B.fills some B.some_d (omega arith) (omega arith) first
+      nearest N a b u d i h (b * W.c) (i * q + b * W.e) (i * p + a * W.e) (a * W.c)
+      octave_some B.fills some B.some_d (omega arith) (omega arith) first
 
   gap_below : (i h : ℕ) → 0 < i → i < a + b → Way N g i 0 h → d ≤ h
   gap_below i h some first W =
@@ -89,7 +90,8 @@ module _ {N g : ℕ} (B : Basis N g) where
       let a_up = ap (λ v. i * v) a_intervals in
       let b_down = ap (λ v. i * v) b_intervals in
       let fills : b * u + a * d ≡ N = omega arith in
-      nearest N b a d u i h (i * p + a * W.c) (a * W.e) (b * W.e) (i * q + b * W.c) octave_some fills some B.some_u (omega arith) (omega arith) (omega arith)
+      nearest N b a d u i h (i * p + a * W.c) (a * W.e) (b * W.e) (i * q + b * W.c)
+      octave_some fills some B.some_u (omega arith) (omega arith) (omega arith)
 
   -- so it is at least u up to a note with a larger number, if that is larger by less than a + b, and at least d up to one with a smaller number
   pub far_later : {k j w : ℕ} → Way N g k j w → k < j → j < k + (a + b) → u ≤ w

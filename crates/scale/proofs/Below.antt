@@ -10,15 +10,16 @@ abbrev pub some_below : (ℕ → Bool) → ℕ → Bool
 some_below test zero = false
 some_below test (suc n) = test n || some_below test n
 
--- all below n pass just if of each of them holds what its test decides
-pub all_below_is : (test : ℕ → Bool) (P : ℕ → Type 0) → ((i : ℕ) → Decides (test i) (P i)) → (n : ℕ) → Decides (all_below test n) ((i : ℕ) → i < n → P i)
+-- where the test decides P: all numbers below n pass it just if P holds of each of them, and some number does just if P holds of some
+pub all_below_is : (test : ℕ → Bool) (P : ℕ → Type 0) → ((i : ℕ) → Decides (test i) (P i)) → (n : ℕ) →
+    Decides (all_below test n) ((i : ℕ) → i < n → P i)
 all_below_is test P each n = Decides-below_and test P (all_below test) each refl (λ _. refl) n
 
 pub some_below_is : (test : ℕ → Bool) (P : ℕ → Type 0) → ((i : ℕ) → Decides (test i) (P i)) → (n : ℕ) →
     Decides (some_below test n) ((i : ℕ) × (i < n) × P i)
 some_below_is test P each n = Decides-below_or test P (some_below test) each refl (λ _. refl) n
 
--- of two rows of numbers the second grows by as much as the first, from place m to place n, if it does from each place to the next
+-- of two rows of numbers the second grows by as much as the first from number m to number n, or more, if it does so from each number to the next
 pub grows_more : (f g : ℕ → ℕ) (m n : ℕ) → m ≤ n → ((i : ℕ) → m ≤ i → i < n → f (suc i) + g i ≤ g (suc i) + f i) → f n + g m ≤ g n + f m
 grows_more f g m zero up step = grind arith
 grows_more f g m (suc n) up step = grind (arith, grows_more f g m n)

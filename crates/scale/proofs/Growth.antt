@@ -153,9 +153,6 @@ module _ (t : Tuning) (some : 0 < t.interval) (small : t.interval < t.octave) wh
         ]
       ]
 
-  pub row_end : 1 < t.notes → RowEnd t
-  row_end many = row_of t.notes many
-
 -- the notes of a tuning that has a basis are all different
 pub different : {t : Tuning} → BasisOf t → AllDifferent t
 different B j k less there = first_different B.basis j k less (omega arith)
@@ -163,7 +160,7 @@ different B j k less there = first_different B.basis j k less (omega arith)
 -- so the notes are not all different just if the row ends at u = d before it reaches them
 pub repeats_just_if : RepeatsJustIf
 repeats_just_if t some small many = (
-  λ repeat. elim (row_end t some small many) [
+  λ repeat. elim (row_of t some small t.notes many) [
     | reached B ↦ absurd (repeat (different B))
     | repeats B same early ↦ (B, same, early)
   ],
@@ -177,7 +174,7 @@ interval_needed = grind arith
 -- every tuning of two notes or more, all of them different, has a basis
 pub basis_of : (t : Tuning) → t.interval < t.octave → 1 < t.notes → AllDifferent t → BasisOf t
 basis_of t small many differ =
-    elim (row_end t (interval_needed t many differ) small many) [
+    elim (row_of t (interval_needed t many differ) small t.notes many) [
       | reached B ↦ B
       | repeats B same early ↦ absurd (not_all_different B same t.notes early differ)
     ]

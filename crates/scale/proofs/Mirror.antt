@@ -35,8 +35,6 @@ unfolding in_order
 mirrored_order u d both = grind arith
 
 module _ {t : Tuning} (small : t.interval < t.octave) (B : BasisOf t) where
-  open B.basis use {a, b, u, d}
-
   basis_down : BasisOf (down t)
   unfolding mirrored
   basis_down =

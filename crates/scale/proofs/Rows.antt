@@ -79,16 +79,15 @@ module _ {t : Tuning} {row : List ℕ} (R : Row t row) where
   unfolding Taken
   row_taken = grind (arith, row_differs)
 
-  places_rise : (i : ℕ) → suc i < t.notes → place t (at t row i) < place t (at t row (suc i))
-  places_rise i less = grind (arith, place_rises)
+  places_rise : (m n : ℕ) → m ≤ n → n < t.notes → n + place t (at t row m) ≤ place t (at t row n) + m
+  places_rise m n up there = grows_more (λ x. x) (λ x. place t (at t row x)) m n up (λ x from below. grind (arith, place_rises))
 
   -- n places that rise, all below n, are 0 to n - 1
   row_places : (i : ℕ) → i < t.notes → place t (at t row i) ≡ i
   row_places i there =
       let last : ℕ = t.notes - 1 in
-      let from_first = grows_more (λ x. x) (λ x. place t (at t row x)) 0 i (omega arith) (λ x from below. omega (arith, places_rise x (omega arith))) in
-      let to_last = grows_more (λ x. x) (λ x. place t (at t row x)) i last (omega arith) (λ x from below. omega (arith, places_rise x (omega arith))) in
-      omega (arith, place_there t (at t row last) (R.there last (omega arith)))
+      let in_row = place_there t (at t row last) (R.there last (omega arith)) in
+      omega (arith, places_rise 0 i (omega arith) there, places_rise i last (omega arith) (omega arith))
 
   row_nexts : (i : ℕ) → i < t.notes → next t (at t row i) ≡ suc (at t row (suc i % t.notes))
   row_nexts i there =
@@ -150,7 +149,7 @@ module _ (t : Tuning) (row : List ℕ) where
   all_told [] = true
   all_told (x ∷ xs) = many_told x.0 == x.1 && all_told xs
 
-  abbrev pub writes_out : List (ℕ × ℕ) → Bool
+  abbrev writes_out : List (ℕ × ℕ) → Bool
   writes_out steps = is_row t row && (nat_le 2 t.notes && (bytes_eq sizes_told (sizes_of steps) && all_told steps))
 
 module _ {t : Tuning} {row : List ℕ} (R : Row t row) (B : BasisOf t) where
@@ -167,7 +166,7 @@ module _ {t : Tuning} {row : List ℕ} (R : Row t row) (B : BasisOf t) where
       (many_so x.0 ∙ eqb-true _ _ here, all_so xs later)
 
 -- a row of two notes or more that passes the test is the scale
-pub written_out : (t : Tuning) (row : List ℕ) (steps : List (ℕ × ℕ)) → writes_out t row steps ≡ true → WrittenOut t row steps
+written_out : (t : Tuning) (row : List ℕ) (steps : List (ℕ × ℕ)) → writes_out t row steps ≡ true → WrittenOut t row steps
 written_out t row steps passed =
     let (is_row, p) = and_parts _ _ passed in
     let (many, q) = and_parts _ _ p in

@@ -80,7 +80,8 @@ module _ {t : Tuning} (B : BasisOf t) where
   next_zero = grind (arith, steps_by_basis t B 0 (omega arith))
 
   pub before_is : before t ≡ suc b
-  before_is = before_in_is t b t.notes B.b_there (grind (arith, steps_by_basis t B b B.b_there)) (λ i there is. grind (arith, steps_by_basis t B i there))
+  before_is =
+      before_in_is t b t.notes B.b_there (grind (arith, steps_by_basis t B b B.b_there)) (λ i there is. grind (arith, steps_by_basis t B i there))
 
 -- a note alone: the step is the octave, and leads back to it
 pub alone : (t : Tuning) → 0 < t.octave → t.notes ≡ 1 → Goes t 0 t.octave 0

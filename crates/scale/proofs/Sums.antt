@@ -37,10 +37,11 @@ module _ {A : Type 0} where
       over_steps f z t (m + i) ≡ times i (f s) (over_steps f z t m)
   unfolding over_steps times
   stretch f z t s m zero all = rw add-zero
-  stretch f z t s m (suc i) all = rw (add-suc, all (m + i) (omega arith) (omega arith), stretch f z t s m i (λ k from below. all k from (omega arith)))
+  stretch f z t s m (suc i) all =
+      rw (add-suc, all (m + i) (omega arith) (omega arith), stretch f z t s m i (λ k from below. all k from (omega arith)))
 
   module _ {t : Tuning} (B : BasisOf t) where
-    open B.basis use {b, u, d}
+    open B.basis use {u, d}
 
     pub over_all : (f : ℕ → A → A) (z : A) →
         over_steps f z t t.notes ≡ times (many_d B) (f d) (times (many_both B) (f (u + d)) (times (many_u B) (f u) z))
