@@ -1,7 +1,7 @@
 -- Of notes 1 to a + b - 1 none is less than u above note 0, and none less than d below it. So, of any two of the first a + b notes, it is at least u up
 -- to the one with the larger number, and at least d up to the other.
-use Rattle.std.proofs.Common.{◌≡◌, ℕ, suc, ◌+◌, ◌-◌, ◌*◌, ◌/◌, ◌%◌, ◌<◌, ◌≤◌, ◌≢◌, sym, ap, inl, inr, mul-le-mul_right, mod-lt, mul-le-mul_left, mul-pos, arith}
-use Rattle.std.proofs.Math.Nat.{eq_of_mul-eq-mul_right, mod-add-div'}
+use Rattle.std.proofs.Common.{◌≡◌, ℕ, suc, ◌+◌, ◌-◌, ◌*◌, ◌/◌, ◌%◌, ◌<◌, ◌≤◌, ◌≢◌, sym, ap, inl, inr, mul-le-mul_right, mul-le-mul_left, mul-pos, arith}
+use Rattle.std.proofs.Math.Nat.{eq_of_mul-eq-mul_right}
 use Rattle.std.proofs.lemmas.Bool.{cases_lt}
 use Rattle.scale.specs.Basis.{Basis}
 use Rattle.scale.specs.Laws.{NoNoteNearer}

@@ -1,5 +1,5 @@
 -- How many of the first n notes are up to a height. Only the first two lemmas look into the definition.
-use Rattle.std.proofs.Common.{◌≡◌, ℕ, zero, suc, ◌+◌, ◌<◌, ◌≤◌, ◌≢◌, ◌⊎◌, refl, arith}
+use Rattle.std.proofs.Common.{◌≡◌, ℕ, suc, ◌<◌, ◌≤◌, ◌≢◌, ◌⊎◌, refl, arith}
 use Rattle.scale.specs.Notes.{Tuning, note, up_to}
 use Rattle.scale.proofs.Below.{grows_more}
 

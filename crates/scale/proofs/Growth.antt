@@ -1,14 +1,13 @@
 -- A basis grows: the farther of its two notes is exchanged for one that is nearer by the other's distance, or by k times that at once. The row of
 -- bases that begins with note 1 on both sides reaches every number of notes, unless it ends at u = d: then note a + b is as high as note 0.
-use Rattle.std.proofs.Common.{◌≡◌, ℕ, zero, suc, ◌+◌, ◌-◌, ◌*◌, ◌%◌, ◌<◌, ◌≤◌, ◌≢◌, sym, refl, ap, ◌∙◌, inl, inr, arith}
-use Rattle.std.proofs.Math.Nat.{add-mul-mod_self_right}
+use Rattle.std.proofs.Common.{◌≡◌, ℕ, zero, suc, ◌+◌, ◌-◌, ◌*◌, ◌%◌, ◌<◌, ◌≤◌, ◌≢◌, refl, ap, inl, inr, arith}
 use Rattle.std.proofs.lemmas.Bool.{cases_lt, cases_order}
 use Rattle.scale.specs.Notes.{Tuning}
 use Rattle.scale.specs.Promise.{Taken, with_notes}
 use Rattle.scale.specs.Basis.{Basis, BasisOf, AllDifferent}
 use Rattle.scale.specs.Laws.{BasisBegins, BasisGrows, BasisExists, IntervalNeeded, RepeatsJustIf}
 use Rattle.scale.proofs.Octaves.{remainder_is}
-use Rattle.scale.proofs.Basis.{p, q, a_intervals, b_intervals, octave_some, fits, first_different}
+use Rattle.scale.proofs.Basis.{p, q, a_intervals, b_intervals, octave_some, first_different}
 
 -- the row begins with note 1 on both sides
 abbrev pub first_basis : {N g : ℕ} → 0 < g → g < N → Basis N g

@@ -1,7 +1,6 @@
 -- The heights of a sum and of a difference of notes, and those with the interval down.
-use Rattle.std.proofs.Common.{◌≡◌, ℕ, suc, ◌+◌, ◌-◌, ◌*◌, ◌/◌, ◌%◌, ◌<◌, sym, ap, ◌∙◌, inl, inr, mod-lt, mod-eq_of_lt, add-mul, arith}
-use Rattle.std.proofs.Math.Nat.{add-mod, mod_self, mod-add-div'}
-use Rattle.std.proofs.lemmas.Bool.{cases_lt}
+use Rattle.std.proofs.Common.{◌≡◌, ℕ, suc, ◌+◌, ◌-◌, ◌*◌, ◌/◌, ◌%◌, ◌<◌, mod-lt, add-mul, arith}
+use Rattle.std.proofs.Math.Nat.{add-mod}
 use Rattle.scale.specs.Notes.{note}
 use Rattle.scale.specs.Laws.{HeightsAdd, HeightsSubtract, HeightsDown}
 use Rattle.scale.proofs.Octaves.{remainder_is}

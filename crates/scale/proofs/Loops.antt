@@ -1,6 +1,5 @@
 -- What the loops of the definitions come to: the least of all ways, and the one note at which a test holds.
-use Rattle.std.proofs.Common.{◌≡◌, ℕ, zero, suc, ◌+◌, ◌%◌, ◌<◌, ◌≤◌, ◌&&◌, ◌==◌, nat_lt, ◌≢◌, ◌⊎◌, sym, refl, ap, ◌∙◌, inl, inr, arith}
-use Rattle.std.proofs.lemmas.Bool.{cases_eq}
+use Rattle.std.proofs.Common.{◌≡◌, ℕ, zero, suc, ◌+◌, ◌%◌, ◌<◌, ◌≤◌, ◌&&◌, nat_lt, ◌⊎◌, inl, inr, arith}
 use Rattle.scale.specs.Notes.{pick, Tuning, note, step, way_up, next_in, next, before_in}
 use Rattle.scale.proofs.Ways.{way}
 

@@ -1,7 +1,6 @@
 -- The interval down in place of up: the two notes of the basis are exchanged, and so are u and d. The sizes of steps, and how many there are of each,
 -- stay.
-use Rattle.std.proofs.Common.{◌≡◌, ℕ, ◌+◌, ◌-◌, ◌<◌, Bool, ltb, sym, ap, ◌∙◌, inl, inr, add_comm, mod-eq_of_lt, arith}
-use Rattle.std.proofs.lemmas.Bool.{cases_order}
+use Rattle.std.proofs.Common.{◌≡◌, ℕ, ◌+◌, ◌-◌, ◌<◌, Bool, sym, ◌∙◌, mod-eq_of_lt, arith}
 use Rattle.scale.specs.Notes.{Tuning, so_large, sizes}
 use Rattle.scale.specs.Promise.{Taken, Downwards}
 use Rattle.scale.specs.Basis.{Basis, BasisOf}

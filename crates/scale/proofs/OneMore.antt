@@ -1,10 +1,10 @@
 -- One note more cuts one step in two, and leaves every other as it was: the basis stays, or one of its notes comes nearer.
-use Rattle.std.proofs.Common.{◌≡◌, ℕ, suc, ◌+◌, ◌-◌, ◌*◌, ◌<◌, ◌≢◌, ap, inl, inr, arith}
+use Rattle.std.proofs.Common.{◌≡◌, ℕ, suc, ◌+◌, ◌-◌, ◌<◌, ◌≢◌, inl, inr, arith}
 use Rattle.std.proofs.lemmas.Bool.{cases_lt}
 use Rattle.scale.specs.Notes.{Tuning, step}
 use Rattle.scale.specs.Promise.{Taken, with_notes, OneMore}
 use Rattle.scale.specs.Basis.{BasisOf, AllDifferent}
-use Rattle.scale.proofs.Growth.{Grows, stays, nears_above, nears_below, ends, grows, basis_at, basis_above, basis_below}
+use Rattle.scale.proofs.Growth.{stays, nears_above, nears_below, ends, grows, basis_at, basis_above, basis_below}
 use Rattle.scale.proofs.Growth.{not_all_different, basis_of}
 use Rattle.scale.proofs.Steps.{steps_by_basis, alone}
 

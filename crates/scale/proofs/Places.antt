@@ -1,13 +1,12 @@
 -- Where notes stand: from one note to the next the place rises by one, and from the last place it goes to 0.
-use Rattle.std.proofs.Common.{◌≡◌, ℕ, zero, suc, ◌+◌, ◌-◌, ◌%◌, ◌<◌, ◌≤◌, ◌≢◌, ◌⊎◌, sym, ap, ◌∙◌, inl, inr, mod-eq_of_lt, arith}
+use Rattle.std.proofs.Common.{◌≡◌, ℕ, zero, suc, ◌+◌, ◌-◌, ◌%◌, ◌<◌, ◌≤◌, ◌≢◌, ◌⊎◌, sym, ap, ◌∙◌, mod-eq_of_lt, arith}
 use Rattle.std.proofs.Math.Nat.{mod_self}
-use Rattle.std.proofs.lemmas.Bool.{cases_lt, cases_order}
 use Rattle.scale.specs.Notes.{Tuning, note, up_to, place, next}
 use Rattle.scale.specs.Promise.{Taken}
 use Rattle.scale.specs.Basis.{AllDifferent}
 use Rattle.scale.specs.Laws.{NextPlace, PlacesByHeight, PlacesDiffer, PlacesFilled}
-use Rattle.scale.proofs.Ways.{note_low, way_to_higher, way_to_lower}
-use Rattle.scale.proofs.Steps.{Goes, same_note, goes_on}
+use Rattle.scale.proofs.Ways.{way_to_higher, way_to_lower}
+use Rattle.scale.proofs.Steps.{Goes, goes_on}
 use Rattle.scale.proofs.Counts.{at_most, all_counted, one_counted, counts_itself, rises_over, rises_by_one}
 
 module _ (t : Tuning) where

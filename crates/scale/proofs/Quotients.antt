@@ -1,5 +1,5 @@
 -- What quotients of products come to, rounded up too, and where the turns round the octave begin.
-use Rattle.std.proofs.Common.{◌≡◌, ℕ, suc, ◌+◌, ◌-◌, ◌*◌, ◌/◌, ◌%◌, ◌<◌, ◌≤◌, ap, inl, inr, arith}
+use Rattle.std.proofs.Common.{◌≡◌, ℕ, suc, ◌+◌, ◌-◌, ◌*◌, ◌/◌, ◌%◌, ◌<◌, ap, inl, inr, arith}
 use Rattle.std.proofs.lemmas.Bool.{cases_lt}
 use Rattle.scale.specs.Quotients.{ceiling, shortfall}
 use Rattle.scale.specs.Laws.{QuotientSmall, CeilingLeast, ShortfallLeast, TurnsBegin}

@@ -1,7 +1,7 @@
 -- Three rules: from note k no way to another note is shorter than u, if note k + a is there; than d, if k is at least b; and than u + d, if neither
 -- holds. If one were, what is left of u, of d, or of that way, would be too short a way between two notes.
 use Rattle.std.proofs.Common.{◌≡◌, ℕ, ◌+◌, ◌-◌, ◌<◌, ◌≤◌, ◌⊎◌, sym, inl, inr, arith}
-use Rattle.std.proofs.lemmas.Bool.{cases_lt, cases_order}
+use Rattle.std.proofs.lemmas.Bool.{cases_order}
 use Rattle.scale.specs.Notes.{Tuning}
 use Rattle.scale.specs.Basis.{BasisOf}
 use Rattle.scale.proofs.Ways.{WayIn, way_rest, way_first, way_to_same}

@@ -1,6 +1,6 @@
 -- The sizes of steps: u, d, and u + d if there are fewer than a + b notes.
-use Rattle.std.proofs.Common.{◌≡◌, ℕ, zero, suc, ◌+◌, ◌*◌, ◌<◌, ◌≤◌, Bool, true, false, ◌==◌, nat_lt, ◌≢◌, List, [], ◌∷◌, length, slice_index, sym, refl, ap, ◌∙◌, inl, inr, add-zero, arith}
-use Rattle.std.proofs.lemmas.Bool.{cases_order, lt-ltb, le-ltb, eq-eqb, ne_eqb}
+use Rattle.std.proofs.Common.{◌≡◌, ℕ, zero, suc, ◌+◌, ◌<◌, ◌≤◌, Bool, true, false, ◌==◌, nat_lt, List, [], ◌∷◌, length, slice_index, refl, ap, ◌∙◌, add-zero, arith}
+use Rattle.std.proofs.lemmas.Bool.{cases_order, lt-ltb, le-ltb}
 use Rattle.scale.specs.Notes.{pick, put_in}
 use Rattle.scale.specs.Promise.{ThreeAtMost}
 use Rattle.scale.specs.Laws.{in_order, SizesListed, StepsCounted, NoteAlone}

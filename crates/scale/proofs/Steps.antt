@@ -1,14 +1,14 @@
 -- The step from every note and the note after it, from the basis of a tuning.
-use Rattle.std.proofs.Common.{◌≡◌, ℕ, suc, ◌+◌, ◌-◌, ◌*◌, ◌%◌, ◌<◌, ◌≤◌, ◌⊎◌, sym, refl, ap, ◌∙◌, inl, inr, arith}
+use Rattle.std.proofs.Common.{◌≡◌, ℕ, suc, ◌+◌, ◌-◌, ◌*◌, ◌%◌, ◌<◌, ◌≤◌, ◌⊎◌, sym, refl, ◌∙◌, inl, inr, arith}
 use Rattle.std.proofs.Math.Nat.{add-mod_right, mod-mod}
-use Rattle.std.proofs.lemmas.Bool.{cases_lt, cases_order}
+use Rattle.std.proofs.lemmas.Bool.{cases_lt}
 use Rattle.scale.specs.Notes.{Tuning, note, step, next, before}
 use Rattle.scale.specs.Promise.{Taken, ByRules}
 use Rattle.scale.specs.Basis.{BasisOf, AllDifferent}
 use Rattle.scale.specs.Laws.{BasisTold, StepsByBasis}
 use Rattle.scale.proofs.Basis.{octave_some, fits, fits_short, way_above, way_below, way_both}
 use Rattle.scale.proofs.Growth.{different, basis_exists, one_note, has_basis, one_or_more}
-use Rattle.scale.proofs.Ways.{WayIn, way, way_short, way_to_same, way_goes, way_is, way_lands}
+use Rattle.scale.proofs.Ways.{WayIn, way, way_short, way_goes, way_is, way_lands}
 use Rattle.scale.proofs.Rules.{rule_above, rule_below, rule_both}
 use Rattle.scale.proofs.Loops.{way_up_is, next_in_is, before_in_is}
 

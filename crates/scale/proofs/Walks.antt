@@ -1,8 +1,8 @@
 -- After m steps from note k of a whole scale one stands at note k + m a - c n, and c of the steps are d. From two notes c differs by one at most, so
 -- that the two spans are equal or differ by as much as u and d.
-use Rattle.std.proofs.Common.{◌≡◌, ℕ, zero, suc, ◌+◌, ◌-◌, ◌*◌, ◌<◌, ◌≤◌, false, ◌⊎◌, List, length, slice_index, ap, ◌∙◌, inl, inr, lt_of_mul-lt-mul_right, arith}
+use Rattle.std.proofs.Common.{◌≡◌, ℕ, zero, suc, ◌+◌, ◌-◌, ◌*◌, ◌<◌, ◌≤◌, false, ◌⊎◌, List, length, slice_index, ap, inl, inr, lt_of_mul-lt-mul_right, arith}
 use Rattle.std.proofs.lemmas.Bool.{cases_lt, cases_order, le-ltb}
-use Rattle.scale.specs.Notes.{Tuning, next, sizes}
+use Rattle.scale.specs.Notes.{Tuning}
 use Rattle.scale.specs.Promise.{span, Spans}
 use Rattle.scale.specs.Basis.{BasisOf}
 use Rattle.scale.specs.Laws.{in_order}

@@ -1,6 +1,6 @@
 -- Ways up from one note to another: so many units, but for whole octaves.
-use Rattle.std.proofs.Common.{◌≡◌, ℕ, suc, ◌+◌, ◌-◌, ◌*◌, ◌/◌, ◌%◌, ◌<◌, ◌≤◌, sym, ap, ◌∙◌, inl, inr, mod-lt, mod-eq_of_lt, zero-mul, arith}
-use Rattle.std.proofs.Math.Nat.{zero-mod, mod-add-div', mod-add-mod, add-mod_right, add-mul-mod_self_right}
+use Rattle.std.proofs.Common.{◌≡◌, ℕ, suc, ◌+◌, ◌-◌, ◌*◌, ◌/◌, ◌%◌, ◌<◌, ◌≤◌, ap, inl, inr, mod-lt, mod-eq_of_lt, arith}
+use Rattle.std.proofs.Math.Nat.{mod-add-mod, add-mul-mod_self_right}
 use Rattle.std.proofs.lemmas.Bool.{cases_lt}
 use Rattle.scale.specs.Notes.{Tuning, note}
 use Rattle.scale.proofs.Octaves.{remainder_is, same_below}
