@@ -22,20 +22,20 @@ module _ {t : Tuning} (B : BasisOf t) {k j w : ℕ} (k_there : k < t.notes) (j_t
 
   pub rule_above : k + a < t.notes → (w ≡ 0) ⊎ (u ≤ w)
   rule_above there =
-      let rest = λ (earlier : j < k) (less : w < u).
-      far_later B.basis (way_rest W (u - w) (omega arith) (way_above B.basis k)) (omega arith) (omega arith) in
+      let V = way_above B.basis k in
+      let rest = λ (earlier : j < k) (less : w < u). far_later B.basis (way_rest W (u - w) (omega arith) V) (omega arith) (omega arith) in
       grind (arith, far)
 
   pub rule_below : b ≤ k → (w ≡ 0) ⊎ (d ≤ w)
   rule_below there =
-      let rest = λ (later : k < j) (less : w < d).
-      far_earlier B.basis (way_rest W (d - w) (omega arith) (way_below B.basis k (k - b) (omega arith))) (omega arith) (omega arith) in
+      let V = way_below B.basis k (k - b) (omega arith) in
+      let rest = λ (later : k < j) (less : w < d). far_earlier B.basis (way_rest W (d - w) (omega arith) V) (omega arith) (omega arith) in
       grind (arith, far)
 
   pub rule_both : t.notes ≤ k + a → k < b → (w ≡ 0) ⊎ (u + d ≤ w)
   rule_both above near =
-      let earlier_rest = λ (earlier : j < k) (d_far : d ≤ w).
-      far_later B.basis (way_first (way_below B.basis (j + b) j (omega arith)) (w - d) (omega arith) W) (omega arith) (omega arith) in
-      let later_rest = λ (later : k < j) (u_far : u ≤ w).
-      far_earlier B.basis (way_rest (way_above B.basis k) (w - u) (omega arith) W) (omega arith) (omega arith) in
+      let U = way_above B.basis k in
+      let V = way_below B.basis (j + b) j (omega arith) in
+      let u_more = λ (earlier : j < k) (d_far : d ≤ w). far_later B.basis (way_first V (w - d) (omega arith) W) (omega arith) (omega arith) in
+      let d_more = λ (later : k < j) (u_far : u ≤ w). far_earlier B.basis (way_rest U (w - u) (omega arith) W) (omega arith) (omega arith) in
       grind (arith, far)
