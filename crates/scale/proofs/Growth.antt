@@ -1,14 +1,13 @@
 -- A basis grows: the farther of its two notes is exchanged for one that is nearer by the other's distance, or by k times that at once. The row of
 -- bases that begins with note 1 on both sides reaches every number of notes, unless it ends at u = d: then note a + b is as high as note 0.
-use Rattle.std.proofs.Common.{◌≡◌, ℕ, zero, suc, ◌+◌, ◌-◌, ◌*◌, ◌%◌, ◌<◌, ◌≤◌, ◌≢◌, sym, refl, ap, ◌∙◌, inl, inr, arith}
-use native.Mathlib.Nat.{add-mul-mod_self_right}
+use Rattle.std.proofs.Common.{◌≡◌, ℕ, zero, suc, ◌+◌, ◌-◌, ◌*◌, ◌%◌, ◌<◌, ◌≤◌, ◌≢◌, refl, ap, inl, inr, arith}
 use Rattle.std.proofs.lemmas.Bool.{cases_lt, cases_order}
 use Rattle.scale.specs.Notes.{Tuning}
 use Rattle.scale.specs.Promise.{Taken, with_notes}
 use Rattle.scale.specs.Basis.{Basis, BasisOf, AllDifferent}
 use Rattle.scale.specs.Laws.{BasisBegins, BasisGrows, BasisExists, IntervalNeeded, RepeatsJustIf}
 use Rattle.scale.proofs.Octaves.{remainder_is}
-use Rattle.scale.proofs.Basis.{p, q, a_intervals, b_intervals, octave_some, fits, first_different}
+use Rattle.scale.proofs.Basis.{p, q, a_intervals, b_intervals, octave_some, first_different}
 
 -- the row begins with note 1 on both sides
 abbrev pub first_basis : {N g : ℕ} → 0 < g → g < N → Basis N g
@@ -34,17 +33,17 @@ module _ {N g : ℕ} (B : Basis N g) (k v : ℕ) where
   -- k steps at once that bring the note above nearer: v of its distance is left
   abbrev pub nearer_above : k * d + v ≡ u → 0 < v → Basis N g
   nearer_above left some =
-      let k_times = ap (λ (x : ℕ). k * x) (b_intervals B) in
+      let k_times = ap (λ x. k * x) (b_intervals B) in
       let apart : (a + k * b) * g + 0 * N ≡ v + (p B + k * q B) * N = omega (arith, a_intervals B) in
       record {
         a = a + k * b;
         b = b;
         u = v;
         d = d;
-        above = remainder_is N ((a + k * b) * g) v 0 (p B + k * q B) (omega (arith, fits B, B.some_d)) apart;
+        above = remainder_is N ((a + k * b) * g) v 0 (p B + k * q B) (omega arith) apart;
         below = B.below;
-        fills = omega (arith, B.fills, ap (λ (x : ℕ). b * x) left);
-        some_a = omega (arith, B.some_a);
+        fills = omega (arith, ap (λ x. b * x) left);
+        some_a = omega arith;
         some_b = B.some_b;
         some_u = some;
         some_d = B.some_d;
@@ -53,19 +52,19 @@ module _ {N g : ℕ} (B : Basis N g) (k v : ℕ) where
   -- and the note below
   abbrev pub nearer_below : k * u + v ≡ d → 0 < v → Basis N g
   nearer_below left some =
-      let k_times = ap (λ (x : ℕ). k * x) (a_intervals B) in
-      let apart : (b + k * a) * g + 1 * N ≡ N - v + (q B + k * p B) * N = omega (arith, b_intervals B, fits B) in
-      let height = remainder_is N ((b + k * a) * g) (N - v) 1 (q B + k * p B) (omega (arith, octave_some B)) apart in
+      let k_times = ap (λ x. k * x) (a_intervals B) in
+      let apart : (b + k * a) * g + 1 * N ≡ N - v + (q B + k * p B) * N = omega (arith, b_intervals B) in
+      let height = remainder_is N ((b + k * a) * g) (N - v) 1 (q B + k * p B) (omega arith) apart in
       record {
         a = a;
         b = b + k * a;
         u = u;
         d = v;
         above = B.above;
-        below = omega (arith, height, fits B);
-        fills = omega (arith, B.fills, ap (λ (x : ℕ). a * x) left);
+        below = omega arith;
+        fills = omega (arith, ap (λ x. a * x) left);
         some_a = B.some_a;
-        some_b = omega (arith, B.some_b);
+        some_b = omega arith;
         some_u = B.some_u;
         some_d = some;
       }
@@ -82,14 +81,11 @@ basis_grows N g B k v some = (
 module _ {N g : ℕ} (B : Basis N g) where
   open B use {a, b, u, d}
 
-  -- at u = d the notes repeat after the first a + b
-  pub note_again : u ≡ d → (k : ℕ) → (k + (a + b)) * g % N ≡ k * g % N
-  note_again same k =
-      let round : (k + (a + b)) * g ≡ k * g + (p B + q B) * N = omega (arith, a_intervals B, b_intervals B) in
-      ap (λ (x : ℕ). x % N) round ∙ add-mul-mod_self_right (k * g) (p B + q B) N
-
+  -- at u = d note a + b is as high as note 0
   pub not_all_different : u ≡ d → (n : ℕ) → a + b < n → ((j k : ℕ) → j < k → k < n → j * g % N ≢ k * g % N) → ⊥
-  not_all_different same n early differ = differ 0 (0 + (a + b)) (omega (arith, B.some_a)) (omega arith) (sym (note_again same 0))
+  not_all_different same n early differ =
+      let level = remainder_is N ((a + b) * g) 0 0 (p B + q B) (octave_some B) (omega (arith, a_intervals B, b_intervals B)) in
+      differ 0 (a + b) (omega arith) (omega arith) (grind arith)
 
 -- what one note more does to the basis of a tuning
 pub data Grows {t : Tuning} (B : BasisOf t) : Type 0 where
@@ -106,15 +102,15 @@ module _ {t : Tuning} (B : BasisOf t) where
       elim (cases_lt t.notes (a + b)) [
         | inl more ↦ stays more
         | inr all ↦ elim (cases_order u d) [
-          | inl same ↦ ends (omega (arith, B.reach)) same
-          | inr (inl less) ↦ nears_below (omega (arith, B.reach)) (d - u) (omega arith) (omega arith)
-          | inr (inr more) ↦ nears_above (omega (arith, B.reach)) (u - d) (omega arith) (omega arith)
+          | inl same ↦ ends (omega arith) same
+          | inr (inl less) ↦ nears_below (omega arith) (d - u) (omega arith) (omega arith)
+          | inr (inr more) ↦ nears_above (omega arith) (u - d) (omega arith) (omega arith)
         ]
       ]
 
   -- up to a + b notes the basis is the same
   abbrev pub basis_at : (m : ℕ) → t.notes ≤ m → m ≤ a + b → BasisOf (with_notes t m)
-  basis_at m from upto = record { basis = B.basis; a_there = omega (arith, B.a_there); b_there = omega (arith, B.b_there); reach = upto }
+  basis_at m from upto = record { basis = B.basis; a_there = omega arith; b_there = omega arith; reach = upto }
 
   -- for one note more it is the next of the row
   abbrev pub basis_above : t.notes ≡ a + b → (v : ℕ) → d + v ≡ u → 0 < v → BasisOf (with_notes t (suc t.notes))
@@ -122,17 +118,17 @@ module _ {t : Tuning} (B : BasisOf t) where
       record {
         basis = nearer_above B.basis 1 v (omega arith) some;
         a_there = omega arith;
-        b_there = omega (arith, B.b_there);
-        reach = omega (arith, B.basis.some_b);
+        b_there = omega arith;
+        reach = omega arith;
       }
 
   abbrev pub basis_below : t.notes ≡ a + b → (v : ℕ) → u + v ≡ d → 0 < v → BasisOf (with_notes t (suc t.notes))
   basis_below all v left some =
       record {
         basis = nearer_below B.basis 1 v (omega arith) some;
-        a_there = omega (arith, B.a_there);
+        a_there = omega arith;
         b_there = omega arith;
-        reach = omega (arith, B.basis.some_a);
+        reach = omega arith;
       }
 
 -- how the row ends for a tuning of two notes or more
@@ -156,17 +152,14 @@ module _ (t : Tuning) (some : 0 < t.interval) (small : t.interval < t.octave) wh
         ]
       ]
 
-  pub row_end : 1 < t.notes → RowEnd t
-  row_end many = row_of t.notes many
-
 -- the notes of a tuning that has a basis are all different
 pub different : {t : Tuning} → BasisOf t → AllDifferent t
-different B j k less there = first_different B.basis j k less (omega (arith, B.reach))
+different B j k less there = first_different B.basis j k less (omega arith)
 
 -- so the notes are not all different just if the row ends at u = d before it reaches them
 pub repeats_just_if : RepeatsJustIf
 repeats_just_if t some small many = (
-  λ repeat. elim (row_end t some small many) [
+  λ repeat. elim (row_of t some small t.notes many) [
     | reached B ↦ absurd (repeat (different B))
     | repeats B same early ↦ (B, same, early)
   ],
@@ -175,16 +168,12 @@ repeats_just_if t some small many = (
 
 -- if the interval is 0, note 1 is as high as note 0
 pub interval_needed : IntervalNeeded
-interval_needed t many differ =
-    elim (cases_lt 0 t.interval) [
-      | inl some ↦ some
-      | inr none ↦ absurd (differ 0 1 (omega arith) many (ap (λ (x : ℕ). x % t.octave) (omega arith)))
-    ]
+interval_needed = grind arith
 
 -- every tuning of two notes or more, all of them different, has a basis
 pub basis_of : (t : Tuning) → t.interval < t.octave → 1 < t.notes → AllDifferent t → BasisOf t
 basis_of t small many differ =
-    elim (row_end t (interval_needed t many differ) small many) [
+    elim (row_of t (interval_needed t many differ) small t.notes many) [
       | reached B ↦ B
       | repeats B same early ↦ absurd (not_all_different B same t.notes early differ)
     ]
@@ -203,5 +192,5 @@ unfolding Taken
 one_or_more t T =
     elim (cases_lt 1 t.notes) [
       | inl many ↦ has_basis (basis_exists t T many)
-      | inr few ↦ one_note T.0 (omega (arith, T.3))
+      | inr few ↦ one_note T.0 (omega arith)
     ]

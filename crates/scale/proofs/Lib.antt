@@ -1,3 +1,4 @@
+pub mod Below
 pub mod Octaves
 pub mod Quotients
 pub mod Basis
@@ -15,6 +16,5 @@ pub mod Whole
 pub mod Walks
 pub mod Counts
 pub mod Places
-pub mod Below
 pub mod Rows
 pub mod Theorems

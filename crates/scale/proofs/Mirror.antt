@@ -1,7 +1,6 @@
 -- The interval down in place of up: the two notes of the basis are exchanged, and so are u and d. The sizes of steps, and how many there are of each,
 -- stay.
-use Rattle.std.proofs.Common.{◌≡◌, ℕ, ◌+◌, ◌-◌, ◌<◌, Bool, ltb, sym, ap, ◌∙◌, inl, inr, add_comm, arith}
-use Rattle.std.proofs.lemmas.Bool.{cases_order}
+use Rattle.std.proofs.Common.{◌≡◌, ℕ, ◌+◌, ◌-◌, ◌<◌, Bool, sym, ◌∙◌, mod-eq_of_lt, arith}
 use Rattle.scale.specs.Notes.{Tuning, so_large, sizes}
 use Rattle.scale.specs.Promise.{Taken, Downwards}
 use Rattle.scale.specs.Basis.{Basis, BasisOf}
@@ -13,14 +12,15 @@ use Rattle.scale.proofs.Sizes.{sizes_listed, steps_counted, note_alone}
 
 mirrored : {N g : ℕ} (f : ℕ) → g + f ≡ N → Basis N g → Basis N f
 mirrored {N} {g} f octave B =
+    let small : d < N = omega (arith, fits B) in
     record {
       a = b;
       b = a;
       u = d;
       d = u;
-      above = omega (arith, height_down g f b (octave_some B) octave (omega (arith, B.below, fits B, B.some_u)), B.below);
-      below = omega (arith, height_down g f a (octave_some B) octave (omega (arith, B.above, B.some_u)), B.above);
-      fills = omega (arith, B.fills);
+      above = grind (arith, height_down g f b (octave_some B) octave, mod-eq_of_lt {n = d});
+      below = grind (arith, height_down g f a (octave_some B) octave, mod-eq_of_lt {n = N - u});
+      fills = omega arith;
       some_a = B.some_b;
       some_b = B.some_a;
       some_u = B.some_d;
@@ -31,17 +31,9 @@ mirrored {N} {g} f octave B =
 
 mirrored_order : (u d : ℕ) (both : Bool) → in_order d u both ≡ in_order u d both
 unfolding in_order
-mirrored_order u d both =
-    let sum = add_comm d u in
-    elim (cases_order u d) [
-      | inl same ↦ grind arith
-      | inr (inl less) ↦ grind arith
-      | inr (inr more) ↦ grind arith
-    ]
+mirrored_order u d both = grind arith
 
 module _ {t : Tuning} (small : t.interval < t.octave) (B : BasisOf t) where
-  open B.basis use {a, b, u, d}
-
   basis_down : BasisOf (down t)
   unfolding mirrored
   basis_down =
@@ -49,21 +41,16 @@ module _ {t : Tuning} (small : t.interval < t.octave) (B : BasisOf t) where
         basis = mirrored (t.octave - t.interval) (omega arith) B.basis;
         a_there = B.b_there;
         b_there = B.a_there;
-        reach = omega (arith, B.reach);
+        reach = omega arith;
       }
 
   sizes_down : sizes (down t) ≡ sizes t
   unfolding mirrored basis_down
-  sizes_down =
-      let sum : ltb t.notes (b + a) ≡ ltb t.notes (a + b) = ap (ltb t.notes) (add_comm b a) in
-      sizes_listed (down t) basis_down ∙ ap (in_order d u) sum ∙ mirrored_order u d (ltb t.notes (a + b)) ∙ sym (sizes_listed t B)
+  sizes_down = grind (arith, sizes_listed (down t) basis_down, sizes_listed t B, mirrored_order)
 
   steps_counted_down : (s : ℕ) → so_large (down t) s t.notes ≡ so_large t s t.notes
   unfolding mirrored basis_down
-  steps_counted_down s =
-      let sum : d + u ≡ u + d = add_comm d u in
-      let more : b + a - t.notes ≡ a + b - t.notes = omega arith in
-      omega (arith, steps_counted t B s, rw (sum, more) at (steps_counted (down t) basis_down s))
+  steps_counted_down s = grind (arith, steps_counted t B s, steps_counted (down t) basis_down s)
 
 pub downwards : Downwards
 unfolding Downwards Taken

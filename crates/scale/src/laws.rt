@@ -7,38 +7,45 @@ ghost use Rattle.scale.specs.Laws.{NextPlace, PlacesByHeight, PlacesDiffer, Plac
 ghost use Rattle.scale.specs.Scales.{FiveFifths, SevenFifths, SevenInTwelve};
 
 // There are at most three sizes of steps, and if there are three the largest is the other two together.
+#[tactic(auto, using(crate::proofs::Theorems::three_at_most))]
 pub fn three_sizes_at_most()
     ensures { ThreeAtMost }
 {}
 
 // All steps together are an octave.
+#[tactic(auto, using(crate::proofs::Theorems::go_round))]
 pub fn steps_go_round()
     ensures { GoRound }
 {}
 
 // With a and b the numbers of the notes next above and next below note 0: after note k comes k + a, if that is there; else k + a - b for k below b,
 // and k - b for the others.
+#[tactic(auto, using(crate::proofs::Theorems::by_rules))]
 pub fn next_by_rules()
     ensures { ByRules }
 {}
 
 // One note more, at a new height, cuts one step in two, and no other.
+#[tactic(auto, using(crate::proofs::Theorems::one_more))]
 pub fn one_note_more()
     ensures { OneMore }
 {}
 
 // The interval down in place of up, if it is above 0, makes the same sizes, and as many of each.
+#[tactic(auto, using(crate::proofs::Theorems::downwards))]
 pub fn interval_downwards()
     ensures { Downwards }
 {}
 
 // A whole scale of two notes or more has at most two sizes of steps, and two spans of the same number of steps, up to as many as there are notes, are
 // the same or differ by as much as the sizes do.
+#[tactic(auto, using(crate::proofs::Theorems::spans))]
 pub fn spans_of_whole_scales()
     ensures { Spans }
 {}
 
 // The heights of a sum and of a difference of notes, and those with the interval down.
+#[tactic(auto, using(crate::proofs::Theorems::heights_add, crate::proofs::Theorems::heights_subtract, crate::proofs::Theorems::heights_down))]
 pub fn height_laws()
     ensures add { HeightsAdd }
     ensures subtract { HeightsSubtract }
@@ -79,6 +86,7 @@ pub fn whole_scale_laws()
 {}
 
 // Places go by height, and each has one note; the next note stands one place higher, and after the last place at place 0.
+#[tactic(auto, using(crate::proofs::Theorems::next_place, crate::proofs::Theorems::places_by_height, crate::proofs::Theorems::places_differ, crate::proofs::Theorems::places_filled))]
 pub fn place_laws()
     ensures next { NextPlace }
     ensures height { PlacesByHeight }
@@ -87,6 +95,7 @@ pub fn place_laws()
 {}
 
 // Three scales written out: their notes by height, and their sizes of steps with how many there are of each.
+#[tactic(auto, using(crate::proofs::Theorems::five_fifths, crate::proofs::Theorems::seven_fifths, crate::proofs::Theorems::seven_in_twelve))]
 pub fn worked_scales()
     ensures five { FiveFifths }
     ensures seven { SevenFifths }
