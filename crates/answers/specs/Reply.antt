@@ -1,8 +1,8 @@
 -- What is replied to an order, and what is written. Assumes nothing: these are definitions.
-use Rattle.std.specs.Prelude.{ℕ, Bool, if◌then◌else◌, List, length, Some, None, Ok, Err, Result, nat_le}
+use Rattle.std.specs.Prelude.{ℕ, if◌then◌else◌, List, length, Some, None, Ok, Err, Result, nat_le}
 use Rattle.scale.specs.declared.tuning.Tuning.{Tuning as Ranged}
 use Rattle.scale.specs.Notes.{Tuning}
-use Rattle.scale.specs.Range.{octave_fits, interval_fits, notes_fit, as_tuning}
+use Rattle.scale.specs.Range.{as_tuning, place_of, tuning_from}
 use Rattle.wire.specs.declared.answer.Answer.TheVariants.{Refused}
 use Rattle.wire.specs.declared.answer.Refusal.{Refusal}
 use Rattle.wire.specs.declared.answer.Refusal.TheVariants.{Unreadable, OutOfRange, NoRoom}
@@ -20,18 +20,13 @@ Reply = Result (Order Tuning) RefusedAt
 abbrev pub refused : Refusal → ℕ → Reply
 refused r place = Err (record { refusal = r; place = place })
 
--- a check: what doesn't pass is refused, and what passes goes on
-abbrev pub unless : Bool → Reply → Reply → Reply
-unless passes refusal next = if passes then next else refusal
-
 -- the checks of an order that can be read, with so much room for the answer
 abbrev pub checked : Order RawTuning → RawTuning → ℕ → Reply
 checked o t room =
-    unless (octave_fits t.octave) (refused OutOfRange 0)
-    (unless (interval_fits t.octave t.interval) (refused OutOfRange 1)
-    (unless (notes_fit t.octave t.notes) (refused OutOfRange 2)
-    (unless (nat_le 64 room) (refused NoRoom 0)
-    (Ok (asked_of o (record { octave = t.octave; interval = t.interval; notes = t.notes }))))))
+    elim (tuning_from t.octave t.interval t.notes) [
+      | Err number ↦ refused OutOfRange (place_of number)
+      | Ok tuning ↦ (if nat_le 64 room then Ok (asked_of o tuning) else refused NoRoom 0)
+    ]
 
 -- the reply to these bytes, with so much room for the answer
 abbrev pub reply : List ℕ → ℕ → Reply

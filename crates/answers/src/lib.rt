@@ -27,11 +27,11 @@ pub fn answer(order: &[u8], out: &mut [u8]) -> Result<Order<Tuning>, Refused>
     reply
 }
 
-// The checks, in their order.
+// The checks, in their order, each by `let .. else` where its refusal is known.
 fn checked(bytes: &[u8], room: usize) -> Result<Order<Tuning>, Refused>
     ensures { said result ≡ reply bytes.now room }
 {
-    let Some(order) = Order::read(bytes) else {
+    let Ok(order) = Order::try_from(bytes) else {
         return Err(Refusal::Unreadable.at(Order::misfit(bytes)));
     };
     let RawTuning {

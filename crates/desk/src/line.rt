@@ -10,7 +10,7 @@ use wire::answer::Refused;
 use wire::order::Order;
 
 /// The line for a reply.
-#[derive(Debug, Drop)]
+#[derive(Clone, Copy, Debug, PartialEq, Eq)]
 pub struct Line(pub Result<Order<Tuning>, Refused>);
 
 impl Line {

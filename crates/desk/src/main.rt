@@ -12,6 +12,9 @@ use std::{env, fs};
 use thiserror::Error;
 use wire::order;
 
+/// How many bytes are read at a time: 4,096 orders.
+const PIECE: usize = 69_632;
+
 const WANTED: &str = "give one file of 17-byte orders, or - for standard input";
 
 /// Why the program ends with status 1.
@@ -53,10 +56,10 @@ fn run(rt: &(impl Runtime + AllocGlobal)) -> Result<(), Failure> {
 
 /// Answers every order of the input, each as soon as it has arrived whole.
 fn answer_all(rt: &(impl Print + AllocGlobal), input: impl Read + Drop) -> Result<(), Failure> {
-    // Without memory there is no buffer; nothing else can fail here.
-    let mut input = BufReader::new(rt.alloc(), input).map_err(|_| AllocError)?;
+    // Nothing but memory can fail here. All of it is asked for before a line is printed.
+    let mut input = BufReader::with_capacity(rt.alloc(), PIECE, input).map_err(|_| AllocError)?;
     let mut out = BufWriter::new(rt.alloc(), io::writer(rt)).map_err(|_| AllocError)?;
-    let mut unanswered = Vec::new(rt.alloc());
+    let mut unanswered = Vec::with_capacity(rt.alloc(), PIECE + order::LENGTH)?;
     // The library's bound for an input that may never end.
     for _ in 0..u64::MAX {
         let arrived = input.fill_buf().map_err(Failure::Read)?;

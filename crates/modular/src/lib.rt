@@ -2,6 +2,7 @@
 #![tactic(auto)]
 
 ghost use Rattle.std.specs.Prelude.{◌≡◌, ◌*◌};
+// The library's word for the number that a `NonZeroU32` is.
 ghost use Rattle.std.specs.NonZero.{non_zero_u32_get};
 ghost use Rattle.scale.specs.Notes.{note};
 ghost use Rattle.scale.specs.Quotients.{shortfall};

@@ -1,6 +1,8 @@
 //! Tunings whose numbers are in range.
 ghost use Rattle.std.specs.Prelude.{◌≡◌, ◌<◌, ◌≤◌, ◌&&◌, if◌then◌else◌, Some, None, nat_le};
 
+use thiserror::Error;
+
 /// The units of the largest octave.
 const LARGEST_OCTAVE: u32 = 1_000_000_000;
 
@@ -19,13 +21,13 @@ pub struct Tuning {
 }
 
 /// Which of a tuning's numbers is the first out of range.
-#[derive(Clone, Copy, Debug, PartialEq, Eq)]
+#[derive(Clone, Copy, Debug, PartialEq, Eq, Error)]
 pub enum RangeError {
-    /// not 1 to 1,000,000,000
+    #[error("the octave is not 1 to 1,000,000,000 units")]
     Octave = 0,
-    /// not below the octave
+    #[error("the interval is not below the octave")]
     Interval = 1,
-    /// not 1 to as many as the octave has units
+    #[error("there are not 1 to as many notes as the octave has units")]
     Notes = 2,
 }
 
@@ -45,7 +47,7 @@ impl Tuning {
     ghost use Rattle.scale.specs.Range.{new_said, tuning_from};
 
     /// The tuning of these numbers, or which of them is the first out of range.
-    // The struct that has them unchecked belongs to a crate that this one doesn't see.
+    // Three numbers and no struct: crates are in layers, and the struct that has them unchecked is not of a lower one.
     pub fn new(octave: u32, interval: u32, notes: u32) -> Result<Tuning, RangeError>
         ensures { new_said result ≡ tuning_from octave interval notes }
     {

@@ -9,7 +9,7 @@ use Rattle.wire.specs.declared.answer.Pairs.TheVariants.{Zero, One, Two, Three}
 use Rattle.wire.specs.declared.order.RawTuning.{RawTuning}
 use Rattle.wire.specs.declared.order.Order.{Order}
 use Rattle.wire.specs.Answers.{answer_bytes, read_answer}
-use Rattle.wire.specs.Messages.{Apart, Bytes, OnlyRead, ReadBack}
+use Rattle.wire.specs.Messages.{TellsApart, Bytes, ReadsNoOther, ReadsBack}
 use Rattle.wire.specs.Orders.{tuning_of, own, order_bytes, read_order, misfit}
 
 -- an order whose numbers fit four bytes
@@ -18,15 +18,15 @@ FitsOrder o = ((tuning_of o).octave < 2 ^ 32) × ((tuning_of o).interval < 2 ^ 3
 
 -- the bytes of an order are read as that order
 abbrev pub OrdersReadBack : Type 0
-OrdersReadBack = ReadBack order_bytes read_order FitsOrder
+OrdersReadBack = ReadsBack order_bytes read_order FitsOrder
 
 -- and no others are
 abbrev pub OnlyOrdersRead : Type 0
-OnlyOrdersRead = OnlyRead order_bytes read_order
+OnlyOrdersRead = ReadsNoOther order_bytes read_order
 
 -- two orders have different bytes
 abbrev pub OrdersApart : Type 0
-OrdersApart = Apart order_bytes FitsOrder
+OrdersApart = TellsApart order_bytes FitsOrder
 
 -- some order begins with the first p of these bytes
 abbrev pub Begins : List ℕ → ℕ → Type 0
@@ -60,12 +60,12 @@ FitsAnswer (Listed ps) = FitsPairs ps
 
 -- the bytes of an answer are read as that answer
 abbrev pub AnswersReadBack : Type 0
-AnswersReadBack = ReadBack answer_bytes read_answer FitsAnswer
+AnswersReadBack = ReadsBack answer_bytes read_answer FitsAnswer
 
 -- and no others are
 abbrev pub OnlyAnswersRead : Type 0
-OnlyAnswersRead = OnlyRead answer_bytes read_answer
+OnlyAnswersRead = ReadsNoOther answer_bytes read_answer
 
 -- two answers have different bytes
 abbrev pub AnswersApart : Type 0
-AnswersApart = Apart answer_bytes FitsAnswer
+AnswersApart = TellsApart answer_bytes FitsAnswer

@@ -5,40 +5,38 @@ ghost use Rattle.wire.specs.AnswerKinds.{kind_of, kind_number};
 ghost use Rattle.wire.specs.Answers.{refusal_number, refusal_of, kind, count, pair_bytes, pairs_bytes, answer_bytes, has_room, pair_of, read_pairs, read_answer};
 ghost use Rattle.wire.specs.Bytes.{over};
 
-use super::bytes::{NoKind, Part};
+use super::bytes::Part;
+use super::error::ReadError;
+use thiserror::Error;
 
 /// Why an order is refused, in the order of the checks.
-#[derive(Clone, Copy, Debug, PartialEq, Eq)]
+#[derive(Clone, Copy, Debug, PartialEq, Eq, Error)]
 pub enum Refusal {
-    /// it can't be read
+    #[error("the order can't be read")]
     Unreadable = 1,
-    /// a number of the tuning is out of range
+    #[error("a number of the tuning is out of range")]
     OutOfRange = 2,
-    /// there is too little room for an answer
+    #[error("there is too little room for an answer")]
     NoRoom = 3,
-    /// two of the tuning's notes have the same height
+    #[error("two of the tuning's notes have the same height")]
     NotAllDifferent = 4,
-    /// there is no such note, place or number of notes
+    #[error("there is no such note, place or number of notes")]
     NotThere = 5,
 }
 
-/// A number that is no refusal's.
-#[derive(Clone, Copy, Debug, PartialEq, Eq)]
-pub struct NoRefusal;
-
 impl TryFrom<u32> for Refusal {
-    type Error = NoRefusal;
+    type Error = ReadError;
 
     ghost try_from_gives = { λ number result. result ≡ ok_or (refusal_of number) (record {}) };
 
-    fn try_from(number: u32) -> Result<Refusal, NoRefusal> {
+    fn try_from(number: u32) -> Result<Refusal, ReadError> {
         match number {
             1 => Ok(Refusal::Unreadable),
             2 => Ok(Refusal::OutOfRange),
             3 => Ok(Refusal::NoRoom),
             4 => Ok(Refusal::NotAllDifferent),
             5 => Ok(Refusal::NotThere),
-            _ => Err(NoRefusal),
+            _ => Err(ReadError),
         }
     }
 }
@@ -65,7 +63,8 @@ impl Refusal {
 }
 
 /// A refusal, and the place that it speaks of.
-#[derive(Clone, Copy, Debug, PartialEq, Eq)]
+#[derive(Clone, Copy, Debug, PartialEq, Eq, Error)]
+#[error("{refusal}, at {place}")]
 pub struct Refused {
     pub refusal: Refusal,
     pub place: u32,
@@ -172,17 +171,17 @@ enum Kind {
 }
 
 impl TryFrom<u8> for Kind {
-    type Error = NoKind;
+    type Error = ReadError;
 
     ghost try_from_gives = { λ byte result. result ≡ ok_or (kind_of byte) (record {}) };
 
-    fn try_from(byte: u8) -> Result<Kind, NoKind> {
+    fn try_from(byte: u8) -> Result<Kind, ReadError> {
         match byte {
             0 => Ok(Kind::Refused),
             1 => Ok(Kind::Number),
             2 => Ok(Kind::Numbers),
             3 => Ok(Kind::Listed),
-            _ => Err(NoKind),
+            _ => Err(ReadError),
         }
     }
 }
@@ -202,6 +201,28 @@ pub enum Answer {
     Number(u32),
     Numbers(Pair),
     Listed(Pairs),
+}
+
+/// The answer that the bytes are.
+impl TryFrom<&[u8]> for Answer {
+    type Error = ReadError;
+
+    ghost try_from_gives = { λ bytes result. result ≡ ok_or (read_answer bytes.now) (record {}) };
+
+    fn try_from(bytes: &[u8]) -> Result<Answer, ReadError> {
+        let kind = Kind::try_from(*bytes.first().ok_or(ReadError)?)?;
+        match (kind, bytes.len()) {
+            (Kind::Refused, 9) => {
+                let refusal = Refusal::try_from(u32::read(&bytes[1..5]))?;
+                let place = u32::read(&bytes[5..9]);
+                Ok(Answer::Refused(refusal.at(place)))
+            }
+            (Kind::Number, 5) => Ok(Answer::Number(u32::read(&bytes[1..5]))),
+            (Kind::Numbers, 9) => Ok(Answer::Numbers(Pair::read(&bytes[1..9]))),
+            (Kind::Listed, _) => Pairs::read(bytes).map(Answer::Listed).ok_or(ReadError),
+            _ => Err(ReadError),
+        }
+    }
 }
 
 impl Answer {
@@ -225,24 +246,6 @@ impl Answer {
             Answer::Number(_) => 5,
             Answer::Numbers(_) => 9,
             Answer::Listed(pairs) => 5 + 8 * pairs.count() as usize,
-        }
-    }
-
-    /// The answer that the bytes are, if they are one.
-    // Not `TryFrom`, as for orders: of bytes that are no answer there is nothing to tell.
-    pub fn read(bytes: &[u8]) -> Option<Answer>
-        ensures { result ≡ read_answer bytes.now }
-    {
-        match (Kind::try_from(*bytes.first()?).ok()?, bytes.len()) {
-            (Kind::Refused, 9) => {
-                let refusal = Refusal::try_from(u32::read(&bytes[1..5])).ok()?;
-                let place = u32::read(&bytes[5..9]);
-                Some(Answer::Refused(refusal.at(place)))
-            }
-            (Kind::Number, 5) => Some(Answer::Number(u32::read(&bytes[1..5]))),
-            (Kind::Numbers, 9) => Some(Answer::Numbers(Pair::read(&bytes[1..9]))),
-            (Kind::Listed, _) => Some(Answer::Listed(Pairs::read(bytes)?)),
-            _ => None,
         }
     }
 

@@ -21,10 +21,6 @@ pub(crate) trait Part: Copy {
         ensures { out.new ≡ bytes_of self };
 }
 
-/// A byte that is no kind.
-#[derive(Clone, Copy, Debug, PartialEq, Eq)]
-pub(crate) struct NoKind;
-
 impl Part for u32 {
     ghost size = { 4 };
 
@@ -33,7 +29,7 @@ impl Part for u32 {
     ghost value_of = { number_of };
 
     fn read(bytes: &[u8]) -> u32 {
-        u32::from_le_bytes([bytes[0], bytes[1], bytes[2], bytes[3]])
+        u32::from_le_bytes(bytes.try_into().unwrap())
     }
 
     fn put(self, out: &mut [u8]) {

@@ -3,6 +3,7 @@
 
 pub mod answer;
 mod bytes;
+pub mod error;
 pub mod laws;
 pub mod order;
 #[cfg(test)]

@@ -4,7 +4,8 @@ ghost use Rattle.std.specs.Option.{ok_or};
 ghost use Rattle.wire.specs.OrderKinds.{kind_of, kind_number};
 ghost use Rattle.wire.specs.Orders.{tuning_of, asked_of, kind, own, tuning_bytes, tuning_in, order_bytes, read_order, order_of, misfit, own_misfit};
 
-use super::bytes::{NoKind, Part};
+use super::bytes::Part;
+use super::error::ReadError;
 
 /// How many bytes an order has.
 pub const LENGTH: usize = 17;
@@ -50,18 +51,18 @@ enum Kind {
 }
 
 impl TryFrom<u8> for Kind {
-    type Error = NoKind;
+    type Error = ReadError;
 
     ghost try_from_gives = { λ byte result. result ≡ ok_or (kind_of byte) (record {}) };
 
-    fn try_from(byte: u8) -> Result<Kind, NoKind> {
+    fn try_from(byte: u8) -> Result<Kind, ReadError> {
         match byte {
             0 => Ok(Kind::Place),
             1 => Ok(Kind::Next),
             2 => Ok(Kind::At),
             3 => Ok(Kind::Sizes),
             4 => Ok(Kind::Whole),
-            _ => Err(NoKind),
+            _ => Err(ReadError),
         }
     }
 }
@@ -106,11 +107,11 @@ impl<T: Copy> Order<T> {
         ensures { result ≡ tuning_of self }
     {
         match self {
-            Order::Place { tuning, .. } => tuning,
-            Order::Next { tuning, .. } => tuning,
-            Order::At { tuning, .. } => tuning,
             Order::Sizes { tuning } => tuning,
-            Order::Whole { tuning, .. } => tuning,
+            Order::Place { tuning, .. }
+            | Order::Next { tuning, .. }
+            | Order::At { tuning, .. }
+            | Order::Whole { tuning, .. } => tuning,
         }
     }
 
@@ -131,11 +132,11 @@ impl<T: Copy> Order<T> {
         ensures { result ≡ own self }
     {
         match self {
-            Order::Place { note, .. } => note,
-            Order::Next { note, .. } => note,
-            Order::At { place, .. } => place,
             Order::Sizes { .. } => 0,
-            Order::Whole { from, .. } => from,
+            Order::Place { note: own, .. }
+            | Order::Next { note: own, .. }
+            | Order::At { place: own, .. }
+            | Order::Whole { from: own, .. } => own,
         }
     }
 
@@ -153,9 +154,26 @@ impl<T: Copy> Order<T> {
     }
 }
 
+/// The order that the bytes are; where they are none, `Order::misfit` tells the place.
+impl TryFrom<&[u8]> for Order<RawTuning> {
+    type Error = ReadError;
+
+    ghost try_from_gives = { λ bytes result. result ≡ ok_or (read_order bytes.now) (record {}) };
+
+    fn try_from(bytes: &[u8]) -> Result<Order<RawTuning>, ReadError> {
+        if bytes.len() != LENGTH {
+            return Err(ReadError);
+        }
+        let kind = Kind::try_from(bytes[0])?;
+        let tuning = RawTuning::read(&bytes[1..13]);
+        kind.order(tuning, u32::read(&bytes[13..17]))
+            .ok_or(ReadError)
+    }
+}
+
 impl Order<RawTuning> {
     /// The order's bytes.
-    // Named as the library's `to_le_bytes`.
+    // Named as the library's `to_le_bytes`: `<[u8; LENGTH]>::from(order)` at each call would be longer.
     pub fn to_bytes(self) -> [u8; LENGTH]
         ensures { result ≡ order_bytes self }
     {
@@ -174,25 +192,13 @@ impl Order<RawTuning> {
         self.own().put(&mut out[13..17]);
     }
 
-    /// The order that the bytes are, if they are one.
-    // Not `TryFrom`: a check takes the order by `let .. else`, and asks for the misfit only where there is none.
-    pub fn read(bytes: &[u8]) -> Option<Order<RawTuning>>
-        ensures { result ≡ read_order bytes.now }
-    {
-        if bytes.len() != LENGTH {
-            return None;
-        }
-        let kind = Kind::try_from(bytes[0]).ok()?;
-        kind.order(RawTuning::read(&bytes[1..13]), u32::read(&bytes[13..17]))
-    }
-
     /// The place of the first byte that doesn't fit; the length if the bytes are an order.
     pub fn misfit(bytes: &[u8]) -> u32
         ensures { result ≡ misfit bytes.now }
     {
         let length = bytes.len().min(LENGTH) as u32;
         match Kind::try_from(byte_at(bytes, 0)) {
-            Err(NoKind) => 0,
+            Err(ReadError) => 0,
             Ok(Kind::Sizes) => length.min(own_misfit(bytes)),
             Ok(_) => length,
         }

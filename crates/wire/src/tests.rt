@@ -1,5 +1,6 @@
 //! Examples of bytes, worked out by hand.
 use super::answer::{Answer, Pair, Pairs, Refusal};
+use super::error::ReadError;
 use super::order::{Order, RawTuning};
 
 #[test]
@@ -15,7 +16,7 @@ fn an_order_and_its_bytes(rt: HostRuntime) {
         bytes,
         [4, 176, 4, 0, 0, 190, 2, 0, 0, 12, 0, 0, 0, 7, 0, 0, 0]
     );
-    assert_eq!(rt; Order::read(&bytes), Some(order));
+    assert_eq!(rt; Order::try_from(bytes.as_slice()), Ok(order));
 }
 
 #[test]
@@ -34,7 +35,7 @@ fn where_orders_stop_fitting(rt: HostRuntime) {
         Order::misfit(&[3, 0, 0, 0, 0, 0, 0, 0, 0, 0, 0, 0, 0, 0, 0]),
         15
     );
-    assert_eq!(rt; Order::read(&[3; 17]), None);
+    assert_eq!(rt; Order::try_from([3; 17].as_slice()), Err(ReadError));
 }
 
 #[test]
@@ -56,8 +57,8 @@ fn an_answer_and_its_bytes(rt: HostRuntime) {
             3, 2, 0, 0, 0, 204, 0, 0, 0, 3, 0, 0, 0, 38, 1, 0, 0, 2, 0, 0, 0, 7,
         ]
     );
-    assert_eq!(rt; Answer::read(&out), None);
-    assert_eq!(rt; Answer::read(&out[0..21]), Some(answer));
+    assert_eq!(rt; Answer::try_from(out.as_slice()), Err(ReadError));
+    assert_eq!(rt; Answer::try_from(&out[0..21]), Ok(answer));
     assert_eq!(rt; answer.write(&mut out[0..20]), None);
     assert_eq!(rt;
         Answer::Refused(Refusal::NotThere.at(3)).write(&mut out),
