@@ -37,7 +37,10 @@ def items(text):
         last = re.compile(indent + r"(\}|\S.*;$)|.*\{\}$| *(requires|ensures).*;$")
         while kind == "fn" and end + 1 < len(lines) and not last.match(lines[end]):
             end += 1
-        above = lines[max(0, i - 1)]
+        first = i
+        while first > 0 and lines[first - 1].lstrip().startswith("#["):
+            first -= 1
+        above = "\n".join(lines[first:i])
         name = re.match(r"\w+", rest)
         found.append((kind, (owner + "::" if indent and owner else "") + (name.group() if name else rest), above, "\n".join(lines[i:end + 1])))
     return found
