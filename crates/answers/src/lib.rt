@@ -16,6 +16,7 @@ mod tests;
 pub const ROOM: usize = 64;
 
 /// Answers the order: a refusal's bytes are written to the front of `out`, if that has room; what passes the checks is handed on.
+// That a reply is the one to these bytes is said of each function that hands one on: no struct holds both.
 pub fn answer(order: &[u8], out: &mut [u8]) -> Result<Order<Tuning>, Refused>
     ensures value { said result ≡ reply order.now (length out.old) }
     ensures after { out.new ≡ written (reply order.now (length out.old)) out.old }
@@ -46,7 +47,7 @@ fn checked(bytes: &[u8], room: usize) -> Result<Order<Tuning>, Refused>
     Ok(order.asked_of(tuning))
 }
 
-// The refusal of a tuning whose first number out of range is this one.
+// The refusal of a tuning whose first number out of range is this one. Not `From`: neither type is of this crate.
 fn out_of_range(number: RangeError) -> Refused
     ensures { result ≡ record { refusal = Refusal.OutOfRange; place = place_of number } }
 {

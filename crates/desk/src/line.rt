@@ -13,11 +13,12 @@ use wire::order::Order;
 #[derive(Clone, Copy, Debug, PartialEq, Eq)]
 pub struct Line(pub Result<Order<Tuning>, Refused>);
 
-impl Line {
-    /// The line of the order that these bytes are.
-    pub fn of(bytes: &[u8]) -> Line
-        ensures { said result.0 ≡ reply bytes.now 64 }
-    {
+/// The line of the order that these bytes are.
+// The reply is the one to these bytes, as in `answers`: no struct holds both.
+impl From<&[u8]> for Line {
+    ghost from_gives = { λ bytes line. said line.0 ≡ reply bytes.now 64 };
+
+    fn from(bytes: &[u8]) -> Line {
         Line(answer(bytes, &mut [0; ROOM]))
     }
 }

@@ -4,10 +4,9 @@
 mod line;
 
 use line::Line;
-use std::alloc::AllocError;
 use std::io::{self, BufRead, BufReader, BufWriter, Read, Write};
 use std::process::ExitCode;
-use std::rt::Runtime;
+use std::rt::{Env, Files};
 use std::{env, fs};
 use thiserror::Error;
 use wire::order;
@@ -25,7 +24,7 @@ enum Failure {
     #[error("can't open {0}: {1}; {WANTED}")]
     Open(String, io::Error),
     #[error("not enough memory")]
-    Memory(#[from] AllocError),
+    Memory,
     #[error("can't read the orders: {0}")]
     Read(io::Error),
     #[error("can't write the answers: {0}")]
@@ -42,7 +41,7 @@ fn main(rt: HostRuntime) -> ExitCode {
     }
 }
 
-fn run(rt: &(impl Runtime + AllocGlobal)) -> Result<(), Failure> {
+fn run(rt: &(impl Env + Files + Input + Print + AllocGlobal)) -> Result<(), Failure> {
     let mut args = env::args(rt).map_err(|_| Failure::Arguments)?.skip(1);
     let (Some(path), None) = (args.next(), args.next()) else {
         return Err(Failure::Arguments);
@@ -57,16 +56,22 @@ fn run(rt: &(impl Runtime + AllocGlobal)) -> Result<(), Failure> {
 /// Answers every order of the input, each as soon as it has arrived whole.
 fn answer_all(rt: &(impl Print + AllocGlobal), input: impl Read + Drop) -> Result<(), Failure> {
     // Nothing but memory can fail here. All of it is asked for before a line is printed.
-    let mut input = BufReader::with_capacity(rt.alloc(), PIECE, input).map_err(|_| AllocError)?;
-    let mut out = BufWriter::new(rt.alloc(), io::writer(rt)).map_err(|_| AllocError)?;
-    let mut unanswered = Vec::with_capacity(rt.alloc(), PIECE + order::LENGTH)?;
+    let mut input = BufReader::with_capacity(rt.alloc(), PIECE, input).map_err(
+        |_| Failure::Memory,
+    )?;
+    let mut out = BufWriter::new(rt.alloc(), io::writer(rt)).map_err(|_| Failure::Memory)?;
+    let mut unanswered = Vec::with_capacity(rt.alloc(), PIECE + order::LENGTH).map_err(
+        |_| Failure::Memory,
+    )?;
     // The library's bound for an input that may never end.
     for _ in 0..u64::MAX {
         let arrived = input.fill_buf().map_err(Failure::Read)?;
         if arrived.is_empty() {
             break;
         }
-        unanswered.extend_from_slice(arrived)?;
+        unanswered
+            .extend_from_slice(arrived)
+            .map_err(|_| Failure::Memory)?;
         let count = arrived.len();
         input.consume(count);
         let whole = unanswered.len() - unanswered.len() % order::LENGTH;
@@ -79,7 +84,7 @@ fn answer_all(rt: &(impl Print + AllocGlobal), input: impl Read + Drop) -> Resul
 /// Prints a line for each of these orders; the last may have fewer bytes than an order has.
 fn print_lines(orders: &[u8], out: &mut impl Write) -> io::Result<()> {
     for order in orders.chunks(order::LENGTH) {
-        writeln!(out, "{}", Line::of(order))?;
+        writeln!(out, "{}", Line::from(order))?;
     }
     out.flush()
 }

@@ -2,7 +2,7 @@
 use Rattle.std.proofs.Common.{◌≡◌, ℕ, ◌+◌, ◌-◌, ◌*◌, ◌%◌, ◌<◌, ◌≤◌, ap, mod-eq_of_lt, le_of_mul-le-mul_right, arith}
 use Rattle.std.proofs.Math.Nat.{add-sub_of_le, add-mul-mod_self_right}
 
--- the larger is so many octaves above the other
+-- the larger is so many octaves above the other; `grind` doesn't cancel the octave, so the number is given
 pub octaves_above : (N m k c e : ℕ) → 0 < N → m + c * N ≡ k + e * N → k ≤ m → (z : ℕ) × (m ≡ k + z * N)
 octaves_above N m k c e pos apart above =
     let fewer : c ≤ e = le_of_mul-le-mul_right {k = N} (omega arith) pos in

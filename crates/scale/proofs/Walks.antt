@@ -47,6 +47,7 @@ module _ {t : Tuning} (B : BasisOf t) where
     one_more_at_most : (m j k : ℕ) (V : Walk j m) (W : Walk k m) → j < t.notes → V.c < 2 + W.c
     one_more_at_most m j k V W there = lt_of_mul-lt-mul_right t.notes {m = V.c} {n = 2 + W.c} (omega arith)
 
+    -- `grind` doesn't put one number of steps for the other in a product, so each product is given
     spans_near : (m j k : ℕ) → j < t.notes → k < t.notes → Near u d (span t j m) (span t k m)
     spans_near m j k j_there k_there =
         let V = walk m j j_there in

@@ -4,4 +4,5 @@ pub mod Range
 pub mod Basis
 pub mod Quotients
 pub mod Laws
+pub mod Rounds
 pub mod Scales

@@ -53,6 +53,7 @@ pub fn height_laws()
 {}
 
 /// What quotients of products come to, and where the turns round the octave begin.
+#[tactic(auto, using(crate::proofs::Theorems::quotient_small, crate::proofs::Theorems::ceiling_least, crate::proofs::Theorems::turns_begin))]
 pub fn quotient_laws()
     ensures small { QuotientSmall }
     ensures ceiling { CeilingLeast }
@@ -61,6 +62,7 @@ pub fn quotient_laws()
 {}
 
 /// The basis of a tuning, two notes next to note 0: that it exists, which notes it has, how it is found, and when notes repeat.
+#[tactic(auto, using(crate::proofs::Theorems::basis_exists, crate::proofs::Theorems::basis_begins, crate::proofs::Theorems::interval_needed))]
 pub fn basis_laws()
     ensures nearest { NoNoteNearer }
     ensures exists { BasisExists }
@@ -72,6 +74,7 @@ pub fn basis_laws()
 {}
 
 /// From the basis follow the step of every note and its next note, the sizes of steps, and how many there are of each; and the same of one note alone.
+#[tactic(auto, using(crate::proofs::Theorems::sizes_listed, crate::proofs::Theorems::steps_counted))]
 pub fn step_laws()
     ensures steps { StepsByBasis }
     ensures sizes { SizesListed }
@@ -80,6 +83,7 @@ pub fn step_laws()
 {}
 
 /// From the basis follows which numbers of notes make a whole scale.
+#[tactic(auto, using(crate::proofs::Theorems::whole_just_if))]
 pub fn whole_scale_laws()
     ensures whole { WholeJustIf }
     ensures first { FirstWhole }

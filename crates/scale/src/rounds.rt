@@ -2,7 +2,7 @@
 ghost use Rattle.std.specs.Prelude.{◌≡◌, ◌+◌, ◌<◌, ◌≤◌};
 
 /// It can't be copied, and no method raises it. Whoever spends a round proves that one is left.
-// It has no model, which would hide from callers that there are few; and no `Default`, since an order has one.
+// It has no model, which would hide from callers that there are few.
 #[derive(Debug, Drop)]
 pub struct Rounds {
     left: u32,
@@ -10,17 +10,19 @@ pub struct Rounds {
 }
 
 impl Rounds {
+    ghost use Rattle.scale.specs.Rounds.{left_of};
+
     /// All rounds of an order.
     pub fn new() -> Rounds
-        ensures { result.left ≡ 4096 }
+        ensures { left_of result ≡ 4096 }
     {
         Rounds { left: 4096 }
     }
 
     /// Spends one.
     pub fn spend(&mut self)
-        requires { 0 < self.old.left }
-        ensures { self.new.left + 1 ≡ self.old.left }
+        requires { 0 < left_of self.old }
+        ensures { left_of self.new + 1 ≡ left_of self.old }
     {
         self.left -= 1;
     }

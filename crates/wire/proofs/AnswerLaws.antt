@@ -22,6 +22,7 @@ pair_back p fits = rw (number_of_four p.first fits.0, number_of_four p.second fi
 refusal_back : (r : Refusal) → refusal_of (number_of (four (refusal_number r))) ≡ Some r
 refusal_back r = grind arith
 
+-- one `grind` for all cases stops at its limit
 pub answers_read_back : AnswersReadBack
 answers_read_back (Refused r) fits = rw (refusal_back r.refusal, number_of_four r.place fits)
 answers_read_back (Number n) fits = cc (number_of_four n fits)

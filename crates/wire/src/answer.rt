@@ -251,8 +251,10 @@ impl Answer {
 
     /// Writes the answer to the front of `out`, and says how long it is; where there is too little room nothing is written.
     pub fn write(self, out: &mut [u8]) -> Option<usize>
-        ensures value { result ≡ (if has_room self out.old then Some (length (answer_bytes self)) else None) }
-        ensures after { out.new ≡ (if has_room self out.old then over (answer_bytes self) out.old else out.old) }
+        ensures value { result ≡ (if has_room self out.old then Some (length (answer_bytes self))
+            else None) }
+        ensures after { out.new ≡ (if has_room self out.old then over (answer_bytes self) out.old
+            else out.old) }
     {
         let length = self.length();
         if out.len() < length {

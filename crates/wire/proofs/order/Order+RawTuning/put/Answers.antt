@@ -1,3 +1,4 @@
+-- The first byte is set, and no part: `using` with `set_split` doesn't find it.
 use Rattle.std.proofs.Common.{◌∙◌, arith, rules}
 use Rattle.std.proofs.lemmas.Grind.{common_steps}
 use Rattle.std.proofs.lemmas.List.{set_split}
