@@ -28,7 +28,7 @@ impl fmt::Display for Line {
 
     fn fmt<W: fmt::Write>(&self, f: &mut fmt::Formatter<W>) -> fmt::Result {
         match &self.0 {
-            Ok(_) => write!(f, "pending"),
+            Ok(_) => f.write_str("pending"),
             Err(Refused { refusal, place }) => {
                 let number = u32::from(*refusal);
                 write!(f, "refused {number} at {place}")
