@@ -11,7 +11,7 @@ use wire::order::Order;
 
 /// The line for a reply.
 #[derive(Clone, Copy, Debug, PartialEq, Eq)]
-pub struct Line(pub Result<Order<Tuning>, Refused>);
+pub struct Line(Result<Order<Tuning>, Refused>);
 
 /// The line of the order that these bytes are.
 // The reply is the one to these bytes, as in `answers`: no struct holds both.

@@ -53,32 +53,33 @@ fn run(rt: &(impl Env + Files + Input + Print + AllocGlobal)) -> Result<(), Fail
     answer_all(rt, file)
 }
 
-/// Answers every order of the input, each as soon as it has arrived whole.
+/// Answers every order of the input. Lines are printed where what has arrived is whole orders, as a full piece is, and where the input ends; so an order is
+/// answered before more are sent.
 fn answer_all(rt: &(impl Print + AllocGlobal), input: impl Read + Drop) -> Result<(), Failure> {
     // Nothing but memory can fail here. All of it is asked for before a line is printed.
     let mut input = BufReader::with_capacity(rt.alloc(), PIECE, input).map_err(
         |_| Failure::Memory,
     )?;
     let mut out = BufWriter::new(rt.alloc(), io::writer(rt)).map_err(|_| Failure::Memory)?;
-    let mut unanswered = Vec::with_capacity(rt.alloc(), PIECE + order::LENGTH).map_err(
-        |_| Failure::Memory,
-    )?;
+    let mut orders = Vec::with_capacity(rt.alloc(), PIECE).map_err(|_| Failure::Memory)?;
     // The library's bound for an input that may never end.
     for _ in 0..u64::MAX {
         let arrived = input.fill_buf().map_err(Failure::Read)?;
-        if arrived.is_empty() {
+        let count = arrived.len().min(PIECE.saturating_sub(orders.len()));
+        orders
+            .extend_from_slice(&arrived[..count])
+            .map_err(|_| Failure::Memory)?;
+        input.consume(count);
+        if count > 0 && orders.len() % order::LENGTH > 0 {
+            continue;
+        }
+        if orders.is_empty() {
             break;
         }
-        unanswered
-            .extend_from_slice(arrived)
-            .map_err(|_| Failure::Memory)?;
-        let count = arrived.len();
-        input.consume(count);
-        let whole = unanswered.len() - unanswered.len() % order::LENGTH;
-        print_lines(&unanswered[..whole], &mut out).map_err(Failure::Write)?;
-        unanswered.drain(..whole);
+        print_lines(&orders, &mut out).map_err(Failure::Write)?;
+        orders.clear();
     }
-    print_lines(&unanswered, &mut out).map_err(Failure::Write)
+    Ok(())
 }
 
 /// Prints a line for each of these orders; the last may have fewer bytes than an order has.

@@ -4,12 +4,12 @@ use Rattle.scale.specs.Notes.{Tuning, note, up_to}
 use Rattle.scale.proofs.Below.{grows_more}
 
 module _ (t : Tuning) where
-  none_yet : (h : ℕ) → up_to t h 0 ≡ 0
+  pub none_yet : (h : ℕ) → up_to t h 0 ≡ 0
   unfolding up_to
   none_yet h = refl
 
   -- note n counts or it does not
-  counted : (h n : ℕ) → ((note t n ≤ h) × (up_to t h (suc n) ≡ suc (up_to t h n))) ⊎ ((h < note t n) × (up_to t h (suc n) ≡ up_to t h n))
+  pub counted : (h n : ℕ) → ((note t n ≤ h) × (up_to t h (suc n) ≡ suc (up_to t h n))) ⊎ ((h < note t n) × (up_to t h (suc n) ≡ up_to t h n))
   unfolding up_to
   counted h n = grind arith
 

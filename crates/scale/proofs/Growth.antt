@@ -1,13 +1,14 @@
 -- A basis grows: the farther of its two notes is exchanged for one that is nearer by the other's distance, or by k times that at once. The row of
 -- bases that begins with note 1 on both sides reaches every number of notes, unless it ends at u = d: then note a + b is as high as note 0.
-use Rattle.std.proofs.Common.{◌≡◌, ℕ, zero, suc, ◌+◌, ◌-◌, ◌*◌, ◌%◌, ◌<◌, ◌≤◌, ◌≢◌, refl, ap, inl, inr, arith}
+use Rattle.std.proofs.Common.{◌≡◌, ℕ, zero, suc, ◌+◌, ◌-◌, ◌*◌, ◌%◌, ◌<◌, ◌≤◌, ◌≢◌, refl, sym, ap, inl, inr, arith}
+use Rattle.std.proofs.Math.Nat.{add-mul-mod_self_right}
 use Rattle.std.proofs.lemmas.Bool.{cases_lt, cases_order}
 use Rattle.scale.specs.Notes.{Tuning}
 use Rattle.scale.specs.Promise.{Taken, with_notes}
 use Rattle.scale.specs.Basis.{Basis, BasisOf, AllDifferent}
 use Rattle.scale.specs.Laws.{BasisBegins, BasisGrows, BasisExists, IntervalNeeded, RepeatsJustIf}
 use Rattle.scale.proofs.Octaves.{remainder_is}
-use Rattle.scale.proofs.Basis.{p, q, a_intervals, b_intervals, octave_some, first_different}
+use Rattle.scale.proofs.Basis.{p, q, a_intervals, b_intervals, first_different}
 
 -- the row begins with note 1 on both sides
 abbrev pub first_basis : {N g : ℕ} → 0 < g → g < N → Basis N g
@@ -81,11 +82,14 @@ basis_grows N g B k v some = (
 module _ {N g : ℕ} (B : Basis N g) where
   open B use {a, b, u, d}
 
-  -- at u = d note a + b is as high as note 0
+  -- at u = d the notes repeat after the first a + b
+  pub note_again : u ≡ d → (k : ℕ) → (k + (a + b)) * g % N ≡ k * g % N
+  note_again same k =
+      let round : (k + (a + b)) * g ≡ k * g + (p B + q B) * N = omega (arith, a_intervals B, b_intervals B) in
+      cc (add-mul-mod_self_right (k * g) (p B + q B) N)
+
   pub not_all_different : u ≡ d → (n : ℕ) → a + b < n → ((j k : ℕ) → j < k → k < n → j * g % N ≢ k * g % N) → ⊥
-  not_all_different same n early differ =
-      let level = remainder_is N ((a + b) * g) 0 0 (p B + q B) (octave_some B) (omega (arith, a_intervals B, b_intervals B)) in
-      differ 0 (a + b) (omega arith) (omega arith) (grind arith)
+  not_all_different same n early differ = differ 0 (0 + (a + b)) (omega arith) (omega arith) (sym (note_again same 0))
 
 -- what one note more does to the basis of a tuning
 pub data Grows {t : Tuning} (B : BasisOf t) : Type 0 where
@@ -152,6 +156,9 @@ module _ (t : Tuning) (some : 0 < t.interval) (small : t.interval < t.octave) wh
         ]
       ]
 
+  pub row_end : 1 < t.notes → RowEnd t
+  row_end many = row_of t.notes many
+
 -- the notes of a tuning that has a basis are all different
 pub different : {t : Tuning} → BasisOf t → AllDifferent t
 different B j k less there = first_different B.basis j k less (omega arith)
@@ -159,7 +166,7 @@ different B j k less there = first_different B.basis j k less (omega arith)
 -- so the notes are not all different just if the row ends at u = d before it reaches them
 pub repeats_just_if : RepeatsJustIf
 repeats_just_if t some small many = (
-  λ repeat. elim (row_of t some small t.notes many) [
+  λ repeat. elim (row_end t some small many) [
     | reached B ↦ absurd (repeat (different B))
     | repeats B same early ↦ (B, same, early)
   ],
@@ -173,7 +180,7 @@ interval_needed = grind arith
 -- every tuning of two notes or more, all of them different, has a basis
 pub basis_of : (t : Tuning) → t.interval < t.octave → 1 < t.notes → AllDifferent t → BasisOf t
 basis_of t small many differ =
-    elim (row_of t (interval_needed t many differ) small t.notes many) [
+    elim (row_end t (interval_needed t many differ) small many) [
       | reached B ↦ B
       | repeats B same early ↦ absurd (not_all_different B same t.notes early differ)
     ]

@@ -11,7 +11,7 @@ use Rattle.scale.proofs.Counts.{at_most, all_counted, one_counted, counts_itself
 
 module _ (t : Tuning) where
   -- of the notes up to a note's height all but the note itself count for its place
-  place_counts : (k : ℕ) → k < t.notes → up_to t (note t k) t.notes ≡ suc (place t k)
+  pub place_counts : (k : ℕ) → k < t.notes → up_to t (note t k) t.notes ≡ suc (place t k)
   place_counts k there = grind (arith, counts_itself)
 
   pub place_there : (k : ℕ) → k < t.notes → place t k < t.notes

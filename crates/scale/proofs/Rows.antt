@@ -149,7 +149,7 @@ module _ (t : Tuning) (row : List ℕ) where
   all_told [] = true
   all_told (x ∷ xs) = many_told x.0 == x.1 && all_told xs
 
-  abbrev writes_out : List (ℕ × ℕ) → Bool
+  abbrev pub writes_out : List (ℕ × ℕ) → Bool
   writes_out steps = is_row t row && (nat_le 2 t.notes && (bytes_eq sizes_told (sizes_of steps) && all_told steps))
 
 module _ {t : Tuning} {row : List ℕ} (R : Row t row) (B : BasisOf t) where
@@ -166,7 +166,7 @@ module _ {t : Tuning} {row : List ℕ} (R : Row t row) (B : BasisOf t) where
       (many_so x.0 ∙ eqb-true _ _ here, all_so xs later)
 
 -- a row of two notes or more that passes the test is the scale
-written_out : (t : Tuning) (row : List ℕ) (steps : List (ℕ × ℕ)) → writes_out t row steps ≡ true → WrittenOut t row steps
+pub written_out : (t : Tuning) (row : List ℕ) (steps : List (ℕ × ℕ)) → writes_out t row steps ≡ true → WrittenOut t row steps
 written_out t row steps passed =
     let (is_row, p) = and_parts _ _ passed in
     let (many, q) = and_parts _ _ p in
