@@ -1,10 +1,12 @@
 //! Answers a file of orders, a line for each.
 #![tactic(auto)]
 
+ghost use Rattle.std.specs.Prelude.{◌≤◌, length, IfOk};
+
 mod line;
 
 use line::Line;
-use std::io::{self, BufRead, BufReader, BufWriter, Read, Write};
+use std::io::{self, BufWriter, Read, Write};
 use std::process::ExitCode;
 use std::rt::{Env, Files};
 use std::{env, fs};
@@ -53,33 +55,36 @@ fn run(rt: &(impl Env + Files + Input + Print + AllocGlobal)) -> Result<(), Fail
     answer_all(rt, file)
 }
 
-/// Answers every order of the input. Lines are printed where what has arrived is whole orders, as a full piece is, and where the input ends; so an order is
-/// answered before more are sent.
-fn answer_all(rt: &(impl Print + AllocGlobal), input: impl Read + Drop) -> Result<(), Failure> {
+/// Answers every order of the input.
+fn answer_all(rt: &(impl Print + AllocGlobal), mut input: impl Read + Drop) -> Result<(), Failure> {
     // Nothing but memory can fail here. All of it is asked for before a line is printed.
-    let mut input = BufReader::with_capacity(rt.alloc(), PIECE, input).map_err(
-        |_| Failure::Memory,
-    )?;
+    let mut piece = vec![in rt.alloc(); 0; PIECE].map_err(|_| Failure::Memory)?;
     let mut out = BufWriter::new(rt.alloc(), io::writer(rt)).map_err(|_| Failure::Memory)?;
-    let mut orders = Vec::with_capacity(rt.alloc(), PIECE).map_err(|_| Failure::Memory)?;
     // The library's bound for an input that may never end.
     for _ in 0..u64::MAX {
-        let arrived = input.fill_buf().map_err(Failure::Read)?;
-        let count = arrived.len().min(PIECE.saturating_sub(orders.len()));
-        orders
-            .extend_from_slice(&arrived[..count])
-            .map_err(|_| Failure::Memory)?;
-        input.consume(count);
-        if count > 0 && orders.len() % order::LENGTH > 0 {
-            continue;
-        }
-        if orders.is_empty() {
+        let filled = fill(&mut input, &mut piece).map_err(Failure::Read)?;
+        if filled == 0 {
             break;
         }
-        print_lines(&orders, &mut out).map_err(Failure::Write)?;
-        orders.clear();
+        print_lines(&piece[..filled], &mut out).map_err(Failure::Write)?;
     }
     Ok(())
+}
+
+/// Reads on until there are whole orders, the piece is full, or the input ends; so an order is answered before more are sent.
+// Not by a `BufReader`: that asks for more than the piece lacks, which others who read the same input miss, and prints other lines where the input fails.
+fn fill(input: &mut impl Read, piece: &mut [u8]) -> io::Result<usize>
+    ensures { IfOk result (λ n. n ≤ length piece.new) }
+{
+    let mut filled = 0;
+    while filled < piece.len() {
+        let more = input.read(&mut piece[filled..])?;
+        filled += more;
+        if more == 0 || filled % order::LENGTH == 0 {
+            break;
+        }
+    }
+    Ok(filled)
 }
 
 /// Prints a line for each of these orders; the last may have fewer bytes than an order has.
