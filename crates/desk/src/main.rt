@@ -72,7 +72,7 @@ fn answer_all(rt: &(impl Print + AllocGlobal), mut input: impl Read + Drop) -> R
 }
 
 /// Reads on until there are whole orders, the piece is full, or the input ends; so an order is answered before more are sent.
-// Not by a `BufReader`: that asks for more than the piece lacks, which others who read the same input miss, and prints other lines where the input fails.
+// Not by a `BufReader`: that asks for more than the piece lacks, which others who read the same input miss, and of a message that is longer the piece gets more.
 fn fill(input: &mut impl Read, piece: &mut [u8]) -> io::Result<usize>
     ensures { IfOk result (λ n. n ≤ length piece.new) }
 {
